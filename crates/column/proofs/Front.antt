@@ -1,0 +1,56 @@
+-- Laws of the first n elements of a list, f of each: what an array and a count stand for, for any type.
+use Prim.Native.Nat.{ℕ, zero, suc, _+_, _≤_, _<_, min}
+use mathlib.Core.Path.{_≡_, refl, ap, _∙_, sym}
+use mathlib.Core.List.{List, [], _∷_, _++_, map}
+use native.Mathlib.Nat.{not-suc-le-zero, le-of-suc-le-suc, zero-min, min-zero, suc-min-suc}
+use native.Mathlib.Numerals.{add-one}
+use lib.ListN.{length, getD, take, drop, set, length-take, length-map, drop-of-length-le}
+
+module _ {A B : Type 0} (f : A → B) where
+  abbrev pub front : ℕ → List A → List B
+  front n l = map f (take n l)
+
+  pub length-front : (n : ℕ) (l : List A) → length (front n l) ≡ min n (length l)
+  length-front n l = length-map (take n l) f ∙ length-take n l
+
+  -- the element at a place below the count, and those behind it
+  front-drop-suc : (n : ℕ) (l : List A) (i : ℕ) (d : A) → i < n → i < length l → drop i (front n l) ≡ f (getD l i d) ∷ drop (suc i) (front n l)
+  front-drop-suc zero l i d p q = absurd (not-suc-le-zero p)
+  front-drop-suc (suc n) [] i d p q = absurd (not-suc-le-zero q)
+  front-drop-suc (suc n) (x ∷ l) zero d p q = refl
+  front-drop-suc (suc n) (x ∷ l) (suc i) d p q = front-drop-suc n l i d (le-of-suc-le-suc p) (le-of-suc-le-suc q)
+
+  pub front-drop : (n : ℕ) (l : List A) (i : ℕ) (d : A) → i < n → i < length l → drop i (front n l) ≡ f (getD l i d) ∷ drop (i + 1) (front n l)
+  front-drop n l i d p q = rw add-one (front-drop-suc n l i d p q)
+
+  -- past the last place
+  pub front-end : (n : ℕ) (l : List A) (i : ℕ) → min n (length l) ≤ i → drop i (front n l) ≡ []
+  front-end n l i h = drop-of-length-le (front n l) {i = i} (rw length-front h)
+
+  pub front-getD : (n : ℕ) (l : List A) (i : ℕ) (d : A) (e : B) → i < n → i < length l → getD (front n l) i e ≡ f (getD l i d)
+  front-getD zero l i d e p q = absurd (not-suc-le-zero p)
+  front-getD (suc n) [] i d e p q = absurd (not-suc-le-zero q)
+  front-getD (suc n) (x ∷ l) zero d e p q = refl
+  front-getD (suc n) (x ∷ l) (suc i) d e p q = front-getD n l i d e (le-of-suc-le-suc p) (le-of-suc-le-suc q)
+
+  -- a store
+  pub front-set : (n : ℕ) (l : List A) (i : ℕ) (x : A) → front n (set l i x) ≡ set (front n l) i (f x)
+  front-set zero l i x = refl
+  front-set (suc n) [] i x = refl
+  front-set (suc n) (y ∷ l) zero x = refl
+  front-set (suc n) (y ∷ l) (suc i) x = ap (λ (r : List B). f y ∷ r) (front-set n l i x)
+
+  -- one place more
+  pub front-suc : (n : ℕ) (l : List A) (d : A) → n < length l → front (suc n) l ≡ front n l ++ (f (getD l n d) ∷ [])
+  front-suc n [] d q = absurd (not-suc-le-zero q)
+  front-suc zero (x ∷ l) d q = refl
+  front-suc (suc n) (x ∷ l) d q = ap (λ (r : List B). f x ∷ r) (front-suc n l d (le-of-suc-le-suc q))
+
+  -- a count above the length is read as the length
+  front-min : (n : ℕ) (l : List A) → front (min n (length l)) l ≡ front n l
+  front-min zero l = rw zero-min
+  front-min (suc n) [] = rw min-zero
+  front-min (suc n) (x ∷ l) = rw suc-min-suc (ap (λ (r : List B). f x ∷ r) (front-min n l))
+
+  pub front-clamp : (n count : ℕ) (l : List A) → n ≡ min count (length l) → front n l ≡ front count l
+  front-clamp n count l e = rw e (front-min count l)

@@ -1,0 +1,249 @@
+-- Laws of the definitions in specs/Columns.antt, worded for the loops over an array of slots.
+use Prim.Native.Nat.{ℕ, zero, suc, _+_, _-_, _≤_, _<_, min, max}
+use mathlib.Core.Path.{_≡_, refl, ap, _∙_, sym}
+use mathlib.Core.Bool.{Bool, true, false}
+use mathlib.Core.List.{List, [], _∷_, _++_, map}
+use native.Mathlib.Nat.{not-suc-le-zero, le-of-suc-le-suc}
+use native.Mathlib.Numerals.{add-one}
+use native.Mathlib.Omega.{arith}
+use lib.ListN.{length, getD, drop, set, length-set, List·getD-eq-default}
+use lib.Dec.{ltb}
+use lib.Seq.{lt-length-set, set-out, drop-set-lt, getD-drop, getD-set-same, getD-set-other}
+use borrow.Author.Tests.{ltb-true, ltb-false}
+use Rattle.column.specs.declared.Column.{Column}
+use Rattle.column.specs.declared.Column.the-variants.{Empty, Blocked, Reserved, Ancestor, Parent}
+use Rattle.column.specs.declared.Slot.{Slot}
+use Rattle.column.specs.declared.Found.{Found}
+use Rattle.column.specs.declared.Found.the-variants.{At, Nothing}
+use Rattle.column.specs.Columns.{columnLimit, isEmpty, next, first, findEmpty, vacant, unblock, keep, trim, at, put, live, emptySlot, SpareEmpty, Mapped, WasReset}
+use Rattle.column.proofs.Front.{length-front, front-drop, front-end, front-getD, front-set, front-suc, front-clamp}
+
+abbrev pub columnOf : Slot → Column
+columnOf s = s .column
+
+-- ---- a search that has passed i columns: what is found from there, counted from 0
+abbrev pub later : ℕ → Found → Found
+later i (At j) = At (i + j)
+later i Nothing = Nothing
+
+later-next : (i : ℕ) (f : Found) → later i (next f) ≡ later (i + 1) f
+later-next i (At j) = ap At (omega arith)
+later-next i Nothing = refl
+
+pub later-zero : (f : Found) → f ≡ later 0 f
+later-zero (At j) = ap At (omega arith)
+later-zero Nothing = refl
+
+module _ (p : Column → Bool) (n : ℕ) (l : List Slot) (i : ℕ) where
+  module _ (h : i < n) (k : i < length l) where
+    pub first-hit : p ((getD l i emptySlot) .column) ≡ true → later i (first p (drop i (live n l))) ≡ At i
+    first-hit e = rw (front-drop columnOf n l i emptySlot h k, e) (ap At (omega arith))
+
+    pub first-miss : p ((getD l i emptySlot) .column) ≡ false
+        → later i (first p (drop i (live n l))) ≡ later (i + 1) (first p (drop (i + 1) (live n l)))
+    first-miss e = rw (front-drop columnOf n l i emptySlot h k, e) (later-next i (first p (drop (i + 1) (live n l))))
+
+  pub first-end : min n (length l) ≤ i → later i (first p (drop i (live n l))) ≡ Nothing
+  first-end h = rw (front-end columnOf n l i h)
+
+-- ---- find_empty and vacant
+module _ (n : ℕ) (l : List Slot) (i : ℕ) where
+  pub find-empty-out : min n (length l) ≤ i → findEmpty i (live n l) ≡ first isEmpty (live n l)
+  find-empty-out h = rw (List·getD-eq-default (live n l) Blocked {n = i} (rw length-front h))
+
+  module _ (h : i < n) (k : i < length l) where
+    pub find-empty-hit : isEmpty ((getD l i emptySlot) .column) ≡ true → findEmpty i (live n l) ≡ At i
+    find-empty-hit e = rw (front-getD columnOf n l i emptySlot Blocked h k, e)
+
+    pub find-empty-miss : isEmpty ((getD l i emptySlot) .column) ≡ false → findEmpty i (live n l) ≡ first isEmpty (live n l)
+    find-empty-miss e = rw (front-getD columnOf n l i emptySlot Blocked h k, e)
+
+module _ (n : ℕ) (l : List Slot) (i : ℕ) where
+  pub vacant-found : first isEmpty (live n l) ≡ At i → i ≡ vacant (live n l)
+  vacant-found e = rw e
+
+  pub vacant-last : first isEmpty (live n l) ≡ Nothing → i ≡ min n (length l) → i ≡ vacant (live n l)
+  vacant-last e h = rw (e, length-front columnOf n l) h
+
+-- ---- a loop that rewrites each column in turn: f is still to be applied from place i on
+unfoldable pub mapFrom : (Column → Column) → ℕ → List Column → List Column
+mapFrom f i [] = []
+mapFrom f zero (c ∷ cs) = f c ∷ mapFrom f zero cs
+mapFrom f (suc i) (c ∷ cs) = c ∷ mapFrom f i cs
+
+module _ (f : Column → Column) where
+  pub mapFrom-all : (cs : List Column) → mapFrom f 0 cs ≡ map f cs
+  unfolding mapFrom
+  mapFrom-all [] = refl
+  mapFrom-all (c ∷ cs) = ap (λ (r : List Column). f c ∷ r) (mapFrom-all cs)
+
+  pub mapFrom-end : (cs : List Column) (i : ℕ) → length cs ≤ i → mapFrom f i cs ≡ cs
+  unfolding mapFrom
+  mapFrom-end [] i h = refl
+  mapFrom-end (c ∷ cs) zero h = absurd (not-suc-le-zero h)
+  mapFrom-end (c ∷ cs) (suc i) h = ap (λ (r : List Column). c ∷ r) (mapFrom-end cs i (le-of-suc-le-suc h))
+
+  mapFrom-set : (cs : List Column) (i : ℕ) (d : Column) → i < length cs → mapFrom f (suc i) (set cs i (f (getD cs i d))) ≡ mapFrom f i cs
+  unfolding mapFrom
+  mapFrom-set [] i d h = refl
+  mapFrom-set (c ∷ cs) zero d h = refl
+  mapFrom-set (c ∷ cs) (suc i) d h = ap (λ (r : List Column). c ∷ r) (mapFrom-set cs i d (le-of-suc-le-suc h))
+
+  -- what such a loop keeps: l₀ is the array at first, l the array once i slots are done
+  pub record Turning (count : ℕ) (l₀ : List Slot) (i : ℕ) (l : List Slot) : Type 0 where
+    pub long : length l ≡ columnLimit
+    pub left : mapFrom f i (live count l) ≡ map f (live count l₀)
+    pub rest : drop count l ≡ drop count l₀
+
+  module _ (count : ℕ) (l₀ : List Slot) where
+    pub turning-start : length l₀ ≡ columnLimit → Turning count l₀ 0 l₀
+    turning-start h = record { long = h; left = mapFrom-all (live count l₀); rest = refl }
+
+    -- slot i is stored at f of what it held
+    pub turning-next : (i : ℕ) (l : List Slot) (s : Slot) → i < min count columnLimit → s .column ≡ f ((getD l i emptySlot) .column)
+        → Turning count l₀ i l → Turning count l₀ (i + 1) (set l i s)
+    turning-next i l s h e t =
+        let k : i < length l = omega (arith, t .long) in
+        record {
+          long = length-set l i s ∙ t .long;
+          left =
+              rw (add-one, front-set columnOf, e, ← front-getD columnOf count l i emptySlot Empty (omega arith) k)
+              (mapFrom-set (live count l) i Empty (rw length-front (omega arith)))
+              ∙ t .left;
+          rest = drop-set-lt count l i s (omega arith) ∙ t .rest;
+        }
+
+    pub turning-end : (i : ℕ) (l : List Slot) → min count columnLimit ≤ i → Turning count l₀ i l → Mapped f l₀ count l
+    turning-end i l h t =
+        record {
+          columns = sym (mapFrom-end (live count l) i (rw (length-front columnOf count l, t .long) h)) ∙ t .left;
+          rest = t .rest;
+        }
+
+-- ---- trimming
+trim-empty : (cs : List Column) (c : Column) → isEmpty c ≡ true → trim (cs ++ (c ∷ [])) ≡ trim cs
+trim-empty [] c e = rw e
+trim-empty (x ∷ cs) c e = ap (keep x) (trim-empty cs c e)
+
+trim-kept : (cs : List Column) (c : Column) → isEmpty c ≡ false → trim (cs ++ (c ∷ [])) ≡ cs ++ (c ∷ [])
+trim-kept [] c e = rw e
+trim-kept (x ∷ []) c e = ap (keep x) (trim-kept [] c e)
+trim-kept (x ∷ y ∷ cs) c e = ap (keep x) (trim-kept (y ∷ cs) c e)
+
+module _ (n : ℕ) (l : List Slot) (h : 0 < n) (k : n ≤ length l) where
+  last : live n l ≡ live (n - 1) l ++ ((getD l (n - 1) emptySlot) .column ∷ [])
+  last = let e : n ≡ suc (n - 1) = omega arith in ap (λ (m : ℕ). live m l) e ∙ front-suc columnOf (n - 1) l emptySlot (omega arith)
+
+  -- an Empty column at the end goes
+  pub trim-turn : isEmpty ((getD l (n - 1) emptySlot) .column) ≡ true → trim (live (n - 1) l) ≡ trim (live n l)
+  trim-turn e = rw last (sym (trim-empty (live (n - 1) l) _ e))
+
+  -- any other stays
+  pub trim-stop : isEmpty ((getD l (n - 1) emptySlot) .column) ≡ false → live n l ≡ trim (live n l)
+  trim-stop e = rw last (sym (trim-kept (live (n - 1) l) _ e))
+
+-- none is left
+pub trim-done : (n : ℕ) (l : List Slot) → n ≤ 0 → live n l ≡ trim (live n l)
+trim-done zero l h = refl
+trim-done (suc n) l h = absurd (not-suc-le-zero h)
+
+-- trimming changes no column: one that went reads as Empty
+keep-at : (c : Column) (cs : List Column) (i : ℕ) → at (keep c cs) i ≡ at (c ∷ cs) i
+keep-at Empty [] zero = refl
+keep-at Empty [] (suc i) = refl
+keep-at Blocked [] i = refl
+keep-at (Reserved n) [] i = refl
+keep-at (Ancestor n) [] i = refl
+keep-at (Parent n) [] i = refl
+keep-at c (d ∷ cs) i = refl
+
+pub trim-at : (cs : List Column) (i : ℕ) → at (trim cs) i ≡ at cs i
+trim-at [] i = refl
+trim-at (c ∷ cs) zero = keep-at c (trim cs) 0
+trim-at (c ∷ cs) (suc i) = keep-at c (trim cs) (suc i) ∙ trim-at cs i
+
+-- ---- reset
+module _ (l r : List Slot) (count m : ℕ) (f : Mapped unblock l count r) (h : m ≤ columnLimit) (e : live m r ≡ trim (live count r)) where
+  -- a slot between the new count and the old one was trimmed, so it is Empty
+  went : (i : ℕ) → m ≤ i → i < count → i < length r → (getD r i emptySlot) .column ≡ Empty
+  went i p q k =
+      sym (front-getD columnOf count r i emptySlot Empty q k)
+      ∙ sym (trim-at (live count r) i)
+      ∙ rw (← e) (List·getD-eq-default (live m r) Empty {n = i} (rw length-front (omega arith)))
+
+  stayed : (i : ℕ) → count ≤ i → getD r i emptySlot ≡ getD l i emptySlot
+  stayed i q =
+      let k : count + (i - count) ≡ i = omega arith in
+      rw (← k, ← getD-drop count r (i - count) emptySlot, ← getD-drop count l (i - count) emptySlot, f .rest)
+
+  rest : SpareEmpty count l → (i : ℕ) → m ≤ i → (b d : Bool) → ltb i count ≡ b → ltb i (length r) ≡ d → (getD r i emptySlot) .column ≡ Empty
+  rest g i p true true q k = went i p (ltb-true _ _ q) (ltb-true _ _ k)
+  rest g i p true false q k = rw (List·getD-eq-default r emptySlot {n = i} (ltb-false _ _ k))
+  rest g i p false d q k = rw (stayed i (ltb-false _ _ q)) (g i (ltb-false _ _ q))
+
+  pub reset-done : WasReset l count (record { slots = r; count = m })
+  reset-done = record { columns = rw (e, f .columns); fits = h; rest = λ g i p. rest g i p (ltb i count) (ltb i (length r)) refl refl }
+
+-- ---- where a search ends: below the number of columns
+module _ (p : Column → Bool) where
+  next-below : (f : Found) (m : ℕ) (i : ℕ) → ((j : ℕ) → f ≡ At j → j < m) → next f ≡ At i → i < suc m
+  next-below (At j) m i h e =
+      let k : suc j ≡ i = cc in
+      omega (arith, h j refl)
+  next-below Nothing m i h e = let z : _≡_ {A = ℕ} 0 1 = cc in absurd (omega arith)
+
+  below-cons : (c : Column) (cs : List Column) (i : ℕ) (b : Bool) → p c ≡ b → ((j : ℕ) → first p cs ≡ At j → j < length cs) → first p (c ∷ cs) ≡ At i → i < suc (length cs)
+  below-cons c cs i true q h e =
+      let f : At 0 ≡ At i = rw q at e in
+      let k : 0 ≡ i = cc in
+      omega arith
+  below-cons c cs i false q h e = next-below (first p cs) (length cs) i h (rw q at e)
+
+  pub first-below : (cs : List Column) (i : ℕ) → first p cs ≡ At i → i < length cs
+  first-below [] i e = let z : _≡_ {A = ℕ} 0 1 = cc in absurd (omega arith)
+  first-below (c ∷ cs) i e = below-cons c cs i (p c) refl (first-below cs) e
+
+-- ---- one column put: among those there are, or as a new last one
+pub put-set : (cs : List Column) (i : ℕ) (c : Column) → i < length cs → put cs i c ≡ set cs i c
+put-set [] i c h = absurd (not-suc-le-zero h)
+put-set (d ∷ cs) zero c h = refl
+put-set (d ∷ cs) (suc i) c h = ap (λ (r : List Column). d ∷ r) (put-set cs i c (le-of-suc-le-suc h))
+
+pub put-last : (cs : List Column) (c : Column) → put cs (length cs) c ≡ cs ++ (c ∷ [])
+put-last [] c = refl
+put-last (d ∷ cs) c = ap (λ (r : List Column). d ∷ r) (put-last cs c)
+
+module _ (count i m : ℕ) (l : List Slot) (s : Slot) (k : i < length l) (h : i ≤ length (live count l)) (e : m ≡ min (max count (i + 1)) (length l)) where
+  below : i < length (live count l) → live m (set l i s) ≡ put (live count l) i (s .column)
+  below g =
+      let q : m ≡ min count (length l) = omega (arith, length-front columnOf count l) in
+      rw (front-set columnOf m l i s, front-clamp columnOf m count l q, put-set (live count l) i (s .column) g)
+
+  behind : length (live count l) ≤ i → live m (set l i s) ≡ put (live count l) i (s .column)
+  behind g =
+      let q : i ≡ min count (length l) = omega (arith, length-front columnOf count l) in
+      let n : m ≡ suc i = omega arith in
+      let o : length (live i l) ≤ i = rw length-front (omega arith) in
+      let d : i ≡ length (live count l) = omega arith in
+      rw (n, front-suc columnOf i (set l i s) emptySlot (lt-length-set l i s k), getD-set-same l i s emptySlot k, front-set columnOf i l i s, set-out (live i l) i (s .column) o)
+      (rw (front-clamp columnOf i count l q) (sym (put-last (live count l) (s .column)) ∙ ap (λ (x : ℕ). put (live count l) x (s .column)) (sym d)))
+
+  pick : (b : Bool) → ltb i (length (live count l)) ≡ b → live m (set l i s) ≡ put (live count l) i (s .column)
+  pick true q = below (ltb-true _ _ q)
+  pick false q = behind (ltb-false _ _ q)
+
+  -- a slot stored at i, and the count with it
+  pub live-put : live m (set l i s) ≡ put (live count l) i (s .column)
+  live-put = pick (ltb i (length (live count l))) refl
+
+  spare-at : (j : ℕ) → m ≤ j → j ≡ i → ⊥
+  spare-at j p q = omega (arith, length-front columnOf count l)
+
+  -- slots past the count stay as they were
+  pub spare-put : SpareEmpty count l → SpareEmpty m (set l i s)
+  spare-put g j p = past (ltb j count) refl (ltb j (length l)) refl
+    where
+      past : (b : Bool) → ltb j count ≡ b → (d : Bool) → ltb j (length l) ≡ d → (getD (set l i s) j emptySlot) .column ≡ Empty
+      past false q d r = rw (getD-set-other l i j s emptySlot (spare-at j p)) (g j (ltb-false _ _ q))
+      past true q false r = rw (getD-set-other l i j s emptySlot (spare-at j p), List·getD-eq-default l emptySlot {n = j} (ltb-false _ _ r))
+      past true q true r = absurd (omega (arith, ltb-true, length-front columnOf count l))

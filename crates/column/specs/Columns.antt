@@ -1,0 +1,140 @@
+-- Columns as document 01 has them ("From columns to text", point 1): what a column is, merging, the lookups and reset.
+use Prim.Native.Nat.{ℕ, zero, suc, _≤_}
+use mathlib.Core.Path.{_≡_}
+use mathlib.Core.Bool.{Bool, true, false, cond}
+use mathlib.Core.List.{List, [], _∷_, map}
+use mathlib.Core.Option.{Option, none, some}
+use lib.Dec.{eqb, ltb}
+use lib.ListN.{length, getD, take, drop}
+use Rattle.column.specs.declared.Column.{Column}
+use Rattle.column.specs.declared.Column.the-variants.{Empty, Blocked, Reserved, Ancestor, Parent}
+use Rattle.column.specs.declared.Slot.{Slot}
+use Rattle.column.specs.declared.Columns.{Columns}
+use Rattle.column.specs.declared.Found.{Found}
+use Rattle.column.specs.declared.Found.the-variants.{At, Nothing}
+
+-- "64 columns" (01, the table's row for reserving)
+abbrev pub columnLimit : ℕ
+columnLimit = 64
+
+-- "in rising rank 0 to 4" (01, point 1; `variant` in column.rs)
+abbrev pub rank : Column → ℕ
+rank Empty = 0
+rank Blocked = 1
+rank (Reserved n) = 2
+rank (Ancestor n) = 3
+rank (Parent n) = 4
+
+-- "the last three hold an id" (01, point 1)
+abbrev pub idOf : Column → Option ℕ
+idOf Empty = none
+idOf Blocked = none
+idOf (Reserved n) = some n
+idOf (Ancestor n) = some n
+idOf (Parent n) = some n
+
+abbrev pub isId : ℕ → Option ℕ → Bool
+isId n none = false
+isId n (some o) = eqb n o
+
+-- whether a column holds the id n (`matches` in column.rs)
+abbrev pub holds : ℕ → Column → Bool
+holds n c = isId n (idOf c)
+
+-- whether a column is Empty
+abbrev pub isEmpty : Column → Bool
+isEmpty Empty = true
+isEmpty Blocked = false
+isEmpty (Reserved n) = false
+isEmpty (Ancestor n) = false
+isEmpty (Parent n) = false
+
+-- "Merging replaces only by a higher rank." (01, point 1)
+abbrev pub merge : Column → Column → Column
+merge old new = cond (ltb (rank old) (rank new)) new old
+
+-- the first column that passes a test, counted from 0
+abbrev pub next : Found → Found
+next (At i) = At (suc i)
+next Nothing = Nothing
+
+abbrev pub first : (Column → Bool) → List Column → Found
+first p [] = Nothing
+first p (c ∷ cs) = cond (p c) (At 0) (next (first p cs))
+
+-- "`find`: first column holding the id." (01, point 1)
+abbrev pub find : ℕ → List Column → Found
+find n cs = first (holds n) cs
+
+-- "`find_empty(i)`: column i if Empty, else the first Empty one." (01, point 1); a column that is not there is not Empty
+abbrev pub findEmpty : ℕ → List Column → Found
+findEmpty i cs = cond (isEmpty (getD cs i Blocked)) (At i) (first isEmpty cs)
+
+-- the column that a lookup found, else another one
+abbrev pub orElse : Found → ℕ → ℕ
+orElse (At i) j = i
+orElse Nothing j = j
+
+-- "the first Empty column or a new last one" (01, point 3)
+abbrev pub vacant : List Column → ℕ
+vacant cs = orElse (first isEmpty cs) (length cs)
+
+-- "With Once dashes, Ancestor columns turn Parent" (01, "How a row finds its columns"; `convert_ancestor_to_parent` in column.rs)
+abbrev pub direct : Column → Column
+direct Empty = Empty
+direct Blocked = Blocked
+direct (Reserved n) = Reserved n
+direct (Ancestor n) = Parent n
+direct (Parent n) = Parent n
+
+-- "`reset`: Blocked becomes Empty, .." (01, point 1)
+abbrev pub unblock : Column → Column
+unblock Empty = Empty
+unblock Blocked = Empty
+unblock (Reserved n) = Reserved n
+unblock (Ancestor n) = Ancestor n
+unblock (Parent n) = Parent n
+
+-- ".. then Empty columns at the end go." (01, point 1): a column goes if it is Empty and none is left behind it
+abbrev pub keep : Column → List Column → List Column
+keep c [] = cond (isEmpty c) [] (c ∷ [])
+keep c (d ∷ ds) = c ∷ d ∷ ds
+
+abbrev pub trim : List Column → List Column
+trim [] = []
+trim (c ∷ cs) = keep c (trim cs)
+
+abbrev pub reset : List Column → List Column
+reset cs = trim (map unblock cs)
+
+-- what stands in column i; past the last column nothing does
+abbrev pub at : List Column → ℕ → Column
+at cs i = getD cs i Empty
+
+-- column i becomes c; where there is no column i yet, Empty ones are made up to it
+abbrev pub put : List Column → ℕ → Column → List Column
+put [] zero c = c ∷ []
+put [] (suc i) c = Empty ∷ put [] i c
+put (d ∷ cs) zero c = c ∷ cs
+put (d ∷ cs) (suc i) c = d ∷ put cs i c
+
+-- the live columns of an array of slots: its first n. The array has 64, so "a column count above 64 is read as 64" (01, "Where a call turns back")
+abbrev pub live : ℕ → List Slot → List Column
+live n slots = map (λ (s : Slot). s .column) (take n slots)
+
+abbrev pub emptySlot : Slot
+emptySlot = record { column = Empty }
+
+-- the slots past the count are Empty: nothing that a call gives depends on it, and from a new shaper on it holds
+abbrev pub SpareEmpty : ℕ → List Slot → Type 0
+SpareEmpty n slots = (i : ℕ) → n ≤ i → (getD slots i emptySlot) .column ≡ Empty
+
+-- what the array functions promise: the live columns by a definition, and what they leave past the count
+pub record Mapped (f : Column → Column) (slots : List Slot) (count : ℕ) (r : List Slot) : Type 0 where
+  pub columns : live count r ≡ map f (live count slots)
+  pub rest : drop count r ≡ drop count slots
+
+pub record WasReset (slots : List Slot) (count : ℕ) (r : Columns) : Type 0 where
+  pub columns : live (r .count) (r .slots) ≡ reset (live count slots)
+  pub fits : r .count ≤ columnLimit
+  pub rest : SpareEmpty count slots → SpareEmpty (r .count) (r .slots)

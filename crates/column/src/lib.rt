@@ -1,0 +1,268 @@
+// The columns of the graph, after column.rs: what a column is, merging, the lookups and reset.
+// They are held as an array of slots and a count; a count above the limit is read as the limit.
+ghost use mathlib.Core.Path.{_≡_};
+ghost use Prim.Native.Nat.{_+_, _≤_, min, max};
+ghost use Rattle.column.specs.Columns.{columnLimit, rank as rankOf, holds, isEmpty, merge as merged, first, find as findIn, findEmpty, vacant as vacantIn, direct, unblock as unblocked, trim, live, emptySlot, Mapped, WasReset};
+
+// The most columns that are held.
+pub const COLUMN_LIMIT: usize = 64;
+
+// A column of the graph; the last three hold an id.
+pub enum Column {
+    Empty,
+    Blocked,
+    Reserved(u32),
+    Ancestor(u32),
+    Parent(u32),
+}
+
+// What the array of columns holds for each column.
+pub struct Slot {
+    pub column: Column,
+}
+
+// The columns: the first `count` slots.
+pub struct Columns {
+    pub slots: [Slot; COLUMN_LIMIT],
+    pub count: usize,
+}
+
+// What a lookup gives: a column's index, or nothing.
+pub enum Found {
+    At(usize),
+    Nothing,
+}
+
+impl Column {
+    // Whether the column holds the id.
+    pub fn matches(self, n: u32) -> bool
+        ensures { λ r. ⌜ r ≡ holds n self ⌝ }
+    {
+        match self {
+            Column::Empty => false,
+            Column::Blocked => false,
+            Column::Reserved(o) => n == o,
+            Column::Ancestor(o) => n == o,
+            Column::Parent(o) => n == o,
+        }
+    }
+
+    // Whether the column is Empty.
+    pub fn is_empty(self) -> bool
+        ensures { λ r. ⌜ r ≡ isEmpty self ⌝ }
+    {
+        match self {
+            Column::Empty => true,
+            Column::Blocked => false,
+            Column::Reserved(_) => false,
+            Column::Ancestor(_) => false,
+            Column::Parent(_) => false,
+        }
+    }
+
+    // The column's rank, from 0 to 4 (`variant` in column.rs).
+    pub fn rank(self) -> u8
+        ensures { λ r. ⌜ r ≡ rankOf self ⌝ }
+    {
+        match self {
+            Column::Empty => 0,
+            Column::Blocked => 1,
+            Column::Reserved(_) => 2,
+            Column::Ancestor(_) => 3,
+            Column::Parent(_) => 4,
+        }
+    }
+
+    // The column after `other` is merged into it: only a higher rank replaces it.
+    pub fn merge(self, other: Column) -> Column
+        ensures { λ r. ⌜ r ≡ merged self other ⌝ }
+    {
+        let old = self.rank();
+        let new = other.rank();
+        if old < new { other } else { self }
+    }
+
+    // Blocked becomes Empty; any other column stays.
+    pub fn reset(self) -> Column
+        ensures { λ r. ⌜ r ≡ unblocked self ⌝ }
+    {
+        match self {
+            Column::Empty => self,
+            Column::Blocked => Column::Empty,
+            Column::Reserved(_) => self,
+            Column::Ancestor(_) => self,
+            Column::Parent(_) => self,
+        }
+    }
+
+    // Ancestor becomes Parent; any other column stays.
+    pub fn convert_ancestor_to_parent(self) -> Column
+        ensures { λ r. ⌜ r ≡ direct self ⌝ }
+    {
+        match self {
+            Column::Empty => self,
+            Column::Blocked => self,
+            Column::Reserved(_) => self,
+            Column::Ancestor(node) => Column::Parent(node),
+            Column::Parent(_) => self,
+        }
+    }
+}
+
+impl Slot {
+    // A slot that holds nothing.
+    pub fn empty() -> Slot
+        ensures { λ r. ⌜ r ≡ emptySlot ⌝ }
+    {
+        let column = Column::Empty;
+        Slot { column }
+    }
+}
+
+// The number of live columns.
+pub fn live_count(count: usize) -> usize
+    ensures { λ r. ⌜ r ≡ min count columnLimit ⌝ }
+{
+    if COLUMN_LIMIT < count {
+        COLUMN_LIMIT
+    } else {
+        count
+    }
+}
+
+// The first column that holds the id.
+pub fn find(slots: [Slot; COLUMN_LIMIT], count: usize, node: u32) -> Found
+    ensures { λ r. ⌜ r ≡ findIn node (live count slots) ⌝ }
+{
+    let n = live_count(count);
+    let mut index: usize = 0;
+    while index < n {
+        let slot = slots[index];
+        let column = slot.column;
+        if column.matches(node) {
+            return Found::At(index);
+        }
+        index += 1;
+    }
+    Found::Nothing
+}
+
+// The first Empty column.
+pub fn first_empty(slots: [Slot; COLUMN_LIMIT], count: usize) -> Found
+    ensures { λ r. ⌜ r ≡ first isEmpty (live count slots) ⌝ }
+{
+    let n = live_count(count);
+    let mut i: usize = 0;
+    while i < n {
+        let slot = slots[i];
+        let column = slot.column;
+        if column.is_empty() {
+            return Found::At(i);
+        }
+        i += 1;
+    }
+    Found::Nothing
+}
+
+// Column `index` if it is Empty, else the first Empty one.
+pub fn find_empty(slots: [Slot; COLUMN_LIMIT], count: usize, index: usize) -> Found
+    ensures { λ r. ⌜ r ≡ findEmpty index (live count slots) ⌝ }
+{
+    let n = live_count(count);
+    if n <= index {
+        return first_empty(slots, count);
+    }
+    let slot = slots[index];
+    let column = slot.column;
+    if column.is_empty() {
+        return Found::At(index);
+    }
+    first_empty(slots, count)
+}
+
+// The first Empty column, else the index of a new last one: the limit itself where there is no room for one.
+pub fn vacant(slots: [Slot; COLUMN_LIMIT], count: usize) -> usize
+    ensures { λ r. ⌜ r ≡ vacantIn (live count slots) ⌝ }
+{
+    let Found::At(index) = first_empty(slots, count) else {
+        return live_count(count);
+    };
+    index
+}
+
+// The number of columns once there is one at `index`: none past the limit.
+pub fn count_with(count: usize, index: usize) -> usize
+    ensures { λ r. ⌜ r ≡ min (max count (index + 1)) columnLimit ⌝ }
+{
+    let n = live_count(count);
+    if index < n {
+        return n;
+    }
+    if COLUMN_LIMIT <= index {
+        return COLUMN_LIMIT;
+    }
+    index + 1
+}
+
+// Every Ancestor column becomes Parent. Slots past the count stay.
+pub fn convert_ancestor_to_parent(slots: [Slot; COLUMN_LIMIT], count: usize) -> [Slot; COLUMN_LIMIT]
+    ensures { λ r. ⌜ Mapped direct slots count r ⌝ }
+{
+    let n = live_count(count);
+    let mut out = slots;
+    let mut at: usize = 0;
+    while at < n {
+        let slot = out[at];
+        let old = slot.column;
+        let column = old.convert_ancestor_to_parent();
+        out[at] = Slot { column };
+        at += 1;
+    }
+    out
+}
+
+// Every Blocked column becomes Empty. Slots past the count stay.
+fn unblock(slots: [Slot; COLUMN_LIMIT], count: usize) -> [Slot; COLUMN_LIMIT]
+    ensures { λ r. ⌜ Mapped unblocked slots count r ⌝ }
+{
+    let n = live_count(count);
+    let mut out = slots;
+    let mut at: usize = 0;
+    while at < n {
+        let slot = out[at];
+        let old = slot.column;
+        let column = old.reset();
+        out[at] = Slot { column };
+        at += 1;
+    }
+    out
+}
+
+// The count without the Empty columns at the end.
+fn trimmed(slots: [Slot; COLUMN_LIMIT], count: usize) -> usize
+    ensures { λ r. ⌜ (r ≤ columnLimit) × (live r slots ≡ trim (live count slots)) ⌝ }
+{
+    let mut n = live_count(count);
+    while 0 < n {
+        let slot = slots[n - 1];
+        let column = slot.column;
+        if column.is_empty() {
+            n -= 1;
+        } else {
+            return n;
+        }
+    }
+    n
+}
+
+// What ends a row: Blocked becomes Empty, then Empty columns at the end go.
+pub fn reset(slots: [Slot; COLUMN_LIMIT], count: usize) -> Columns
+    ensures { λ r. ⌜ WasReset slots count r ⌝ }
+{
+    let out = unblock(slots, count);
+    let n = trimmed(out, count);
+    Columns {
+        slots: out,
+        count: n,
+    }
+}

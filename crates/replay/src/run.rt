@@ -1,0 +1,154 @@
+// The commands: what each does with the state, and what it answers.
+use crate::codes;
+use crate::input;
+use crate::input::HEADER;
+use render::Options;
+use row_shape::HEIGHT_LIMIT;
+use row_shape::Shaper;
+
+// What the commands work on.
+pub(crate) struct State {
+    pub(crate) shaper: Shaper,
+}
+
+// What a command answers, beside the state that it leaves. The calls give their refusal's number.
+pub(crate) enum Answer {
+    NotBuilt,
+    List(u32),
+    New(u8),
+    Reserve(u8),
+    Shaper,
+    Repeated(u32),
+}
+
+// What a command gives: its answer and the state after it.
+pub(crate) struct Reply {
+    pub(crate) answer: Answer,
+    pub(crate) state: State,
+}
+
+impl State {
+    // The state at the beginning of a stream or a list: the shaper is the one that a refused new shaper call gives.
+    pub(crate) fn new() -> State {
+        let graph_row_shape_style = codes::style(0, 0);
+        let too_high = Options {
+            min_row_height: HEIGHT_LIMIT + 1,
+            stagger_consecutive_disconnected_nodes: false,
+            graph_row_shape_style,
+        };
+        let refused = Shaper::with_options(too_high);
+        let shaper = refused.shaper;
+        State { shaper }
+    }
+}
+
+// `L`: number.
+fn list(payload: &[u8]) -> Reply {
+    let answer = Answer::List(input::u32_at(payload, 0));
+    let state = State::new();
+    Reply { answer, state }
+}
+
+// `N`: options.
+fn new_shaper(payload: &[u8], state: State) -> Reply {
+    let options = codes::options_at(payload, 0);
+    let given = Shaper::with_options(options);
+    let answer = Answer::New(given.refusal);
+    let shaper = given.shaper;
+    let mut after = state;
+    after.shaper = shaper;
+    Reply {
+        answer,
+        state: after,
+    }
+}
+
+// `R`: id.
+fn reserve(payload: &[u8], state: State) -> Reply {
+    let before = state.shaper;
+    let given = before.reserve(input::u32_at(payload, 0));
+    let answer = Answer::Reserve(given.refusal);
+    let shaper = given.shaper;
+    let mut after = state;
+    after.shaper = shaper;
+    Reply {
+        answer,
+        state: after,
+    }
+}
+
+// `S`: count (at 0), previous (8), options (17), slots (28).
+fn set_shaper(payload: &[u8], state: State) -> Reply {
+    let slots = codes::slots_at(payload, 28);
+    let count = input::u64_at(payload, 0) as usize;
+    let previous_node_column = codes::found_at(payload, 8);
+    let options = codes::options_at(payload, 17);
+    let shaper = Shaper {
+        slots,
+        count,
+        previous_node_column,
+        options,
+    };
+    let mut after = state;
+    after.shaper = shaper;
+    let answer = Answer::Shaper;
+    Reply {
+        answer,
+        state: after,
+    }
+}
+
+// Any other letter changes nothing.
+fn not_built(state: State) -> Reply {
+    let answer = Answer::NotBuilt;
+    Reply { answer, state }
+}
+
+// Runs one command that is no repeat.
+fn call(letter: u8, payload: &[u8], state: State) -> Reply {
+    match letter {
+        b'L' => list(payload),
+        b'N' => new_shaper(payload, state),
+        b'R' => reserve(payload, state),
+        b'S' => set_shaper(payload, state),
+        _ => not_built(state),
+    }
+}
+
+// Runs every whole command of the bytes once; a repeat among them is skipped.
+fn run_once(bytes: &[u8], state: State) -> State {
+    let mut now = state;
+    let mut at: usize = 0;
+    while at < bytes.len() {
+        let end = input::command_end(bytes, at);
+        if end <= at {
+            return now;
+        }
+        let reply = call(bytes[at], input::part(bytes, at + HEADER, end), now);
+        now = reply.state;
+        at = end;
+    }
+    now
+}
+
+// `X`: times (at 0), commands (4).
+fn repeat(payload: &[u8], state: State) -> Reply {
+    let times = input::u32_at(payload, 0);
+    let commands = input::part(payload, 4, payload.len());
+    let mut now = state;
+    let mut turn: u32 = 0;
+    while turn < times {
+        now = run_once(commands, now);
+        turn += 1;
+    }
+    let answer = Answer::Repeated(times);
+    Reply { answer, state: now }
+}
+
+// Runs one command.
+pub(crate) fn run(letter: u8, payload: &[u8], state: State) -> Reply {
+    if letter == b'X' {
+        return repeat(payload, state);
+    }
+    call(letter, payload, state)
+}

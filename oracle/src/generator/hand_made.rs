@@ -1,0 +1,197 @@
+//! States and shapes set by hand, also such as no call leads to.
+
+use super::Generator;
+use crate::refusals;
+use crate::stream::Cell;
+use crate::stream::HandShape;
+use crate::stream::HandShaper;
+use crate::stream::HandState;
+use crate::stream::Slot;
+
+/// What may stand at the end of a queued line: white space that the crate trims, and other characters that it does not.
+const QUEUE_ENDS: [&str; 12] = [
+    "",
+    "",
+    "",
+    " ",
+    "   ",
+    "\t",
+    " \r",
+    "\x0b\x0c",
+    "\u{a0}",
+    "\u{2003} ",
+    "\u{200b}",
+    "\x1b(B",
+];
+
+/// Parts of a queued line.
+const QUEUE_PARTS: [&str; 9] = [
+    "  ",
+    "| ",
+    "\u{2502} ",
+    "\u{b7} ",
+    "~ ",
+    "a",
+    "\x1b(0x \x1b(B",
+    "\t",
+    "   ",
+];
+
+impl Generator<'_> {
+    /// A shaper set by hand, of any kind.
+    pub fn hand_shaper(&mut self) -> HandShaper {
+        if self.random.once_in(5) {
+            return self.wide_shaper();
+        }
+        let count = match self.random.weighted(&[20, 4, 1]) {
+            0 => self.random.below(7),
+            1 => self.random.from(7, 20),
+            _ => self.random.pick(&[63, 64, 65, 66, 128, 1 << 32, u64::MAX]),
+        };
+        let slots = self.slots(count.min(70));
+        self.shaper_of(count, slots)
+    }
+
+    /// A shaper with 58 to 64 columns or a count above, most of them holding an id.
+    pub fn wide_shaper(&mut self) -> HandShaper {
+        let count = self
+            .random
+            .pick(&[58, 60, 61, 62, 63, 63, 64, 64, 64, 65, 70, u64::MAX]);
+        let given = count.min(70);
+        let first = self.random.pick(&[0, 100, u32::MAX - 70]);
+        let mut slots: Vec<_> = (0..given as u32)
+            .map(|place| Slot {
+                kind: self.random.pick(&[2, 3, 4, 4]),
+                id: first + place,
+            })
+            .collect();
+        for _ in 0..self.random.pick(&[0, 0, 1, 2, 5]) {
+            let place = self.random.below(given) as usize;
+            slots[place] = self.slot();
+        }
+        self.shaper_of(count, slots)
+    }
+
+    /// The shaper with this count and these slots.
+    fn shaper_of(&mut self, count: u64, slots: Vec<Slot>) -> HandShaper {
+        HandShaper {
+            count,
+            has_previous: self.random.pick(&[0, 1, 1, 1, 2]),
+            previous: self.previous(count),
+            options: self.options(),
+            slots,
+        }
+    }
+
+    /// A previous node column: below the count, at it, above it.
+    fn previous(&mut self, count: u64) -> u64 {
+        let live = count.min(refusals::COLUMNS as u64);
+        match self.random.weighted(&[5, 5, 2, 2]) {
+            0 => self.random.below(live + 1),
+            1 => live,
+            2 => live + 1,
+            _ => self
+                .random
+                .pick(&[0, 62, 63, 64, 65, u64::from(u32::MAX), u64::MAX]),
+        }
+    }
+
+    /// About as many slots as asked: fewer, or more, now and then.
+    fn slots(&mut self, count: u64) -> Vec<Slot> {
+        let given = match self.random.weighted(&[10, 2, 1]) {
+            0 => count,
+            1 => self.random.below(count + 1),
+            _ => count + 2,
+        };
+        (0..given).map(|_| self.slot()).collect()
+    }
+
+    /// One slot.
+    fn slot(&mut self) -> Slot {
+        Slot {
+            kind: self.random.pick(&[0, 0, 1, 2, 2, 3, 3, 4, 4, 4, 5]),
+            id: self.id(),
+        }
+    }
+
+    /// A text state set by hand. Its queued line is UTF-8, since the crate holds no other.
+    pub fn hand_state(&mut self) -> HandState {
+        let bytes = self.queue();
+        let given = bytes.len() as u64;
+        let length = match self.random.weighted(&[12, 3, 1]) {
+            0 => given,
+            1 => given + self.random.below(4),
+            _ => self.random.pick(&[0, 512, 513, 1 << 32, u64::MAX]),
+        };
+        HandState {
+            queued: self.random.pick(&[0, 1, 1, 1, 7]),
+            length,
+            row_height: self
+                .random
+                .pick(&[0, 1, 1, 1, 2, 3, 16, 1 << 32, u64::MAX - 1, u64::MAX]),
+            bytes,
+        }
+    }
+
+    /// The bytes of a queued line.
+    fn queue(&mut self) -> Vec<u8> {
+        if self.random.once_in(12) {
+            let character = self.random.pick(b"ab ");
+            return vec![character; self.random.pick(&[510, 511, 512, 512, 514])];
+        }
+        let mut line: String = (0..self.random.below(9))
+            .map(|_| self.random.pick(&QUEUE_PARTS))
+            .collect();
+        line.push_str(self.random.pick(&QUEUE_ENDS));
+        line.into_bytes()
+    }
+
+    /// A shape set by hand.
+    pub fn hand_shape(&mut self) -> HandShape {
+        let width = match self.random.weighted(&[20, 3, 2]) {
+            0 => self.random.below(9),
+            1 => self.random.pick(&[30, 62, 63, 64]),
+            _ => self.random.pick(&[65, 66, 100, 1 << 32, u64::MAX]),
+        };
+        let given = match self.random.weighted(&[10, 1, 1]) {
+            0 => width.min(66),
+            1 => self.random.below(width.min(64) + 1),
+            _ => width.min(64) + 1,
+        };
+        let busy = self.random.from(1, 6);
+        HandShape {
+            node: self.id(),
+            merge: self.random.flag(),
+            separator: self.random.flag(),
+            dash: self.random.flag(),
+            placement: self.random.flag(),
+            head: self.random.flag(),
+            root: self.random.flag(),
+            column: self.random.pick(&[0, 0, 1, 2, 63, 64, 65, u64::MAX]),
+            width,
+            has_link: self.random.pick(&[0, 1, 1, 2]),
+            has_term: self.random.pick(&[0, 0, 1, 2]),
+            cells: (0..given).map(|_| self.cell(busy)).collect(),
+        }
+    }
+
+    /// One cell; its marks are the rarer, the less busy the shape is.
+    fn cell(&mut self, busy: u64) -> Cell {
+        Cell {
+            node: self.random.pick(&[0, 0, 1, 1, 2, 2, 2, 3, 4]),
+            link: self.link(busy),
+            from: self.link(busy),
+            term: self.random.pick(&[0, 0, 0, 1, 2]),
+            ancestry: self.random.pick(&[0, 0, 1, 2, 2, 3]),
+            parent: self.random.pick(&[0, 0, 1, 2]),
+        }
+    }
+
+    /// The marks of a cell, and free bits now and then.
+    fn link(&mut self, busy: u64) -> u16 {
+        let bits = if self.random.once_in(8) { 16 } else { 13 };
+        (0..bits)
+            .filter(|_| self.random.below(10) < busy)
+            .fold(0, |marks, place| marks | 1 << place)
+    }
+}

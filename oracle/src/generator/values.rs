@@ -1,0 +1,239 @@
+//! Single values: ids, entries, options, marks, messages, lengths, record bytes.
+
+use super::Generator;
+use crate::column::Column;
+use crate::random::Random;
+use crate::records;
+use crate::refusals;
+use crate::stream::Entry;
+use crate::stream::Options;
+
+/// Ids that a list draws its few from.
+const IDS: [u32; 12] = [0, u32::MAX, 1, 2, 3, 5, 7, 9, 10, 256, 65_536, u32::MAX - 1];
+
+/// Bytes that no message may hold.
+const BAD_BYTES: [u8; 9] = [0x09, 0x1f, 0x7f, 0x0d, 0x80, 0x00, 0x0b, 0xc2, 0xff];
+
+/// The few ids of one list.
+pub fn few_ids(random: &mut Random) -> Vec<u32> {
+    (0..random.from(2, 7)).map(|_| random.pick(&IDS)).collect()
+}
+
+impl Generator<'_> {
+    /// An id of the list's few, one that is held, or a new one.
+    pub fn id(&mut self) -> u32 {
+        match self.random.weighted(&[10, 6, 1]) {
+            0 => self.random.pick(&self.ids),
+            1 => self.held(),
+            _ => self.random.from(1000, 1200) as u32,
+        }
+    }
+
+    /// An id that a column holds, if there is one.
+    fn held(&mut self) -> u32 {
+        let held: Vec<_> = self
+            .machine
+            .shaper
+            .columns()
+            .iter()
+            .filter_map(held_id)
+            .collect();
+        if held.is_empty() {
+            self.random.pick(&self.ids)
+        } else {
+            self.random.pick(&held)
+        }
+    }
+
+    /// A node: often one that is held.
+    pub fn node(&mut self) -> u32 {
+        if self.random.once_in(3) {
+            self.held()
+        } else {
+            self.id()
+        }
+    }
+
+    /// The entries of a row: repeats, the node itself and Anonymous ones among them.
+    pub fn entries(&mut self, node: u32) -> Vec<Entry> {
+        let count = match self.random.weighted(&[24, 34, 20, 14, 4, 3, 1]) {
+            0 => 0,
+            1 => 1,
+            2 => 2,
+            3 => self.random.from(3, 6),
+            4 => self.random.from(7, 30),
+            5 => self.random.from(31, 33),
+            _ => 40,
+        };
+        let mut entries: Vec<Entry> = Vec::new();
+        let fresh = self
+            .random
+            .pick(&[None, None, None, Some(2000), Some(2050), Some(2100)]);
+        for place in 0..count {
+            let entry = self.entry(node, fresh.map(|first| first + place as u32), &entries);
+            entries.push(entry);
+        }
+        entries
+    }
+
+    /// One entry after those before it; where it is given an id of its own, it mostly takes that.
+    fn entry(&mut self, node: u32, own: Option<u32>, before: &[Entry]) -> Entry {
+        let kind = self.random.pick(&[0, 1, 1, 1, 2, 2, 2, 2, 2, 2, 2, 3]);
+        if !before.is_empty() && self.random.once_in(7) {
+            let id = self.random.pick(before).id;
+            return Entry { kind, id };
+        }
+        let id = if self.random.once_in(12) {
+            node
+        } else {
+            own.unwrap_or_else(|| self.id())
+        };
+        Entry { kind, id }
+    }
+
+    /// The options of a shaper: mostly heights that pass.
+    pub fn options(&mut self) -> Options {
+        let height = match self.random.weighted(&[24, 8, 6, 2]) {
+            0 => self.random.pick(&[0, 1, 1, 1, 2]),
+            1 => self.random.from(2, 5),
+            2 => self.random.from(6, 17),
+            _ => self.random.pick(&[16, 17, 18, 256, 1 << 32, u64::MAX]),
+        };
+        Options {
+            height,
+            stagger: self.random.flag(),
+            dash: self.random.flag(),
+            placement: self.random.flag(),
+        }
+    }
+
+    /// A mark: mostly one that passes.
+    pub fn mark(&mut self) -> u8 {
+        match self.random.weighted(&[40, 8, 2]) {
+            0 => self.random.pick(b"o@*x"),
+            1 => self.random.pick(&[0x21, 0x7e, b'|', b'~', b'\\']),
+            _ => self
+                .random
+                .pick(&[0x20, 0x7f, 0x00, 0x0a, 0x1f, 0x80, 0xff]),
+        }
+    }
+
+    /// A message: short ones, ones of several lines, and both sides of each limit.
+    pub fn message(&mut self) -> Vec<u8> {
+        match self.random.weighted(&[24, 8, 34, 20, 4, 3, 1]) {
+            0 => Vec::new(),
+            1 => self.characters(1, b"a \n"),
+            2 => self.short(20, b"abc d"),
+            3 => self.short(40, b"ab  \n"),
+            4 => self.long(),
+            5 => self.damaged(),
+            _ => {
+                let length = self.random.pick(&[511, 512, 513]);
+                self.characters(length, b"\n\n\n\n\n\n\n\na")
+            }
+        }
+    }
+
+    /// A message of 511 to 513 bytes, or a longer one.
+    fn long(&mut self) -> Vec<u8> {
+        let length = self.random.pick(&[511, 512, 512, 513, 513, 600]);
+        let mut message = self.characters(length, b"abcdefgh ~!");
+        for _ in 0..self.random.below(4) {
+            let place = self.random.below(length) as usize;
+            message[place] = b'\n';
+        }
+        message
+    }
+
+    /// A message with a byte that it may not hold.
+    fn damaged(&mut self) -> Vec<u8> {
+        let length = self.random.pick(&[1, 5, 20, 512, 513]);
+        let mut message = self.characters(length, b"ab c\n");
+        let place = self.random.below(length) as usize;
+        message[place] = self.random.pick(&BAD_BYTES);
+        message
+    }
+
+    /// Up to `most` characters out of `from`.
+    pub fn short(&mut self, most: u64, from: &[u8]) -> Vec<u8> {
+        let length = self.random.from(1, most);
+        self.characters(length, from)
+    }
+
+    /// So many characters out of `from`.
+    fn characters(&mut self, length: u64, from: &[u8]) -> Vec<u8> {
+        (0..length).map(|_| self.random.pick(from)).collect()
+    }
+
+    /// An output length: one byte short, exact, longer, or anything where the need is not known.
+    pub fn length(&mut self, need: Option<usize>) -> u32 {
+        let Some(need) = need else {
+            return self.random.below(60) as u32;
+        };
+        let need = need as u32;
+        match self.random.weighted(&[50, 10, 26, 3, 5, 3, 3]) {
+            0 => need,
+            1 => need.saturating_sub(1),
+            2 => need + self.random.from(1, 20) as u32,
+            3 => 0,
+            4 => self.random.below(400) as u32,
+            5 => need / 2,
+            _ => need + self.random.pick(&[61, 1000, 3000]),
+        }
+    }
+
+    /// The bytes left for a record call: whole records, cut ones and damaged ones.
+    pub fn record(&mut self) -> Vec<u8> {
+        let mut bytes = self.whole_record();
+        match self.random.weighted(&[10, 2, 1, 2, 2, 2, 3]) {
+            0 => {}
+            1 => bytes.truncate(self.random.pick(&[1, 5, 64, 126, 127])),
+            2 => bytes.clear(),
+            3 => bytes[5] = self.random.pick(&[8, 9, 10, 255]),
+            4 => self.spoil_kind(&mut bytes),
+            5 => bytes.truncate(self.random.below(128) as usize),
+            _ => {
+                let further = self.short(72, b"abc\x00\xff");
+                bytes.extend(further);
+            }
+        }
+        bytes
+    }
+
+    /// A record that passes, with any bytes where they are ignored.
+    fn whole_record(&mut self) -> Vec<u8> {
+        let count = self.random.below(u64::from(refusals::RECORD_ENTRIES) + 1) as u8;
+        let mut bytes = self.id().to_le_bytes().to_vec();
+        bytes.push(self.mark());
+        bytes.push(count);
+        for place in 0..refusals::RECORD_ENTRIES {
+            let kinds: &[u8] = if place < count {
+                &[0, 1, 2, 2]
+            } else {
+                &[0, 0, 1, 3, 255]
+            };
+            bytes.push(self.random.pick(kinds));
+            bytes.extend(self.id().to_le_bytes());
+        }
+        let message = self.message();
+        bytes.extend(message.iter().take(refusals::RECORD - records::MESSAGE_AT));
+        let filler = self.random.pick(&[0, 0, 0, b'z']);
+        bytes.resize(refusals::RECORD, filler);
+        bytes
+    }
+
+    /// Gives an entry, used or not, a kind that does not exist.
+    fn spoil_kind(&mut self, bytes: &mut [u8]) {
+        let entry = self.random.below(u64::from(refusals::RECORD_ENTRIES)) as usize;
+        bytes[records::ENTRIES_AT + entry * records::ENTRY_BYTES] =
+            self.random.pick(&[2, 3, 4, 255]);
+    }
+}
+
+/// The id that a column holds.
+fn held_id(column: &Column<u32>) -> Option<u32> {
+    match column {
+        Column::Empty | Column::Blocked => None,
+        Column::Reserved(id) | Column::Ancestor(id) | Column::Parent(id) => Some(*id),
+    }
+}

@@ -1,0 +1,291 @@
+//! One shaper, one text state and one shape, and what each command does with them.
+
+use std::collections::BTreeMap;
+
+use crate::calls;
+use crate::calls::Shape;
+use crate::calls::Shaper;
+use crate::calls::TextState;
+use crate::codes;
+use crate::records;
+use crate::records::Record;
+use crate::refusals;
+use crate::refusals::Refusal;
+use crate::stream::Command;
+use crate::stream::Drawing;
+use crate::stream::Letters;
+use crate::stream::Options;
+use crate::stream::Repeat;
+use crate::stream::Row;
+use crate::stream::Text;
+use crate::stream::Width;
+
+/// The greatest output length.
+const OUTPUT: u32 = 300_000;
+
+/// What a command answers, beside the states that it leaves.
+pub enum Answer {
+    NotBuilt,
+    NotHeld,
+    List(u32),
+    New(u8),
+    Reserve(u8),
+    Row(u8),
+    Width(u8, u64),
+    Renderer(u8, Output),
+    Text(u8, Output, usize),
+    Record(u8, Option<Record>),
+    Shaper,
+    State,
+    Shape,
+    Repeated(u32),
+}
+
+impl Answer {
+    /// The refusal number of a call that can be refused.
+    fn refusal(&self) -> Option<u8> {
+        match self {
+            Answer::New(number)
+            | Answer::Reserve(number)
+            | Answer::Row(number)
+            | Answer::Width(number, _)
+            | Answer::Renderer(number, _)
+            | Answer::Text(number, ..)
+            | Answer::Record(number, _) => Some(*number),
+            _ => None,
+        }
+    }
+}
+
+/// An output after a call: all its bytes, and how many of them were written.
+pub struct Output {
+    pub bytes: Vec<u8>,
+    pub length: usize,
+}
+
+impl Output {
+    /// An output that no call has written to.
+    fn new(length: u32) -> Self {
+        let bytes = (0..length.min(OUTPUT))
+            .map(|i| 0xa0 + (i % 61) as u8)
+            .collect();
+        Self { bytes, length: 0 }
+    }
+
+    /// Writes a text to the head of the output, if it fits.
+    fn write(&mut self, text: &str) -> Result<(), Refusal> {
+        refusals::output(self.bytes.len(), text.len())?;
+        self.bytes[..text.len()].copy_from_slice(text.as_bytes());
+        self.length = text.len();
+        Ok(())
+    }
+}
+
+/// How often each call was made, by its letter and refusal number.
+#[derive(Clone, Debug, Default)]
+pub struct Counts {
+    pub calls: BTreeMap<u8, u64>,
+    pub refusals: BTreeMap<(u8, u8), u64>,
+}
+
+impl Counts {
+    /// Counts one answered call.
+    fn add(&mut self, letter: u8, answer: &Answer) {
+        *self.calls.entry(letter).or_default() += 1;
+        if let Some(number) = answer.refusal() {
+            *self.refusals.entry((letter, number)).or_default() += 1;
+        }
+    }
+
+    /// Adds the counts of another.
+    pub fn join(&mut self, other: &Counts) {
+        for (letter, count) in &other.calls {
+            *self.calls.entry(*letter).or_default() += count;
+        }
+        for (place, count) in &other.refusals {
+            *self.refusals.entry(*place).or_default() += count;
+        }
+    }
+
+    /// How often this refusal number was given, 0 for a call that passed.
+    pub fn of_refusal(&self, number: u8) -> u64 {
+        self.refusals
+            .iter()
+            .filter(|((_, given), _)| *given == number)
+            .map(|(_, count)| count)
+            .sum()
+    }
+}
+
+/// The states that commands work on.
+pub struct Machine {
+    pub shaper: Shaper,
+    pub state: TextState,
+    pub shape: Shape,
+    pub counts: Counts,
+    built: Letters,
+}
+
+impl Machine {
+    /// The machine at the beginning of a stream.
+    pub fn new(built: &Letters) -> Self {
+        Self {
+            shaper: calls::blank_shaper(),
+            state: TextState::default(),
+            shape: calls::blank_shape(),
+            counts: Counts::default(),
+            built: built.clone(),
+        }
+    }
+
+    /// Runs a command and counts it; one that is not built changes nothing.
+    pub fn run(&mut self, command: &Command) -> Answer {
+        let letter = command.letter();
+        if !self.built.know(letter) {
+            return Answer::NotBuilt;
+        }
+        let answer = self.call(command);
+        self.counts.add(letter, &answer);
+        answer
+    }
+
+    /// Runs a command.
+    fn call(&mut self, command: &Command) -> Answer {
+        match command {
+            Command::List(number) => self.list(*number),
+            Command::New(options) => self.new_shaper(options),
+            Command::Reserve(id) => self.reserve(*id),
+            Command::Row(row) => self.row(row),
+            Command::Width(width) => self.width(width),
+            Command::Renderer(drawing) => self.renderer(drawing),
+            Command::Text(text) => self.text(text),
+            Command::Record(left) => record(left),
+            Command::Shaper(hand) => {
+                self.shaper = calls::hand_shaper(hand);
+                Answer::Shaper
+            }
+            Command::State(hand) => {
+                self.state = calls::hand_state(hand);
+                Answer::State
+            }
+            Command::Shape(hand) => {
+                self.shape = calls::hand_shape(hand);
+                Answer::Shape
+            }
+            Command::Repeat(repeat) => self.repeat(repeat),
+            Command::Unknown(..) => Answer::NotBuilt,
+        }
+    }
+
+    /// Begins a list.
+    fn list(&mut self, number: u32) -> Answer {
+        self.shaper = calls::blank_shaper();
+        self.state = TextState::default();
+        self.shape = calls::blank_shape();
+        Answer::List(number)
+    }
+
+    /// New shaper; a refused one takes the old one's place too.
+    fn new_shaper(&mut self, options: &Options) -> Answer {
+        let (number, shaper) = split(calls::new_shaper(options));
+        self.shaper = shaper.unwrap_or_else(calls::blank_shaper);
+        Answer::New(number)
+    }
+
+    /// Reserve.
+    fn reserve(&mut self, id: u32) -> Answer {
+        let (number, after) = split(calls::reserve(&self.shaper, id));
+        if let Some(shaper) = after {
+            self.shaper = shaper;
+        }
+        Answer::Reserve(number)
+    }
+
+    /// Row; the shape of a refused one takes the old one's place too.
+    fn row(&mut self, row: &Row) -> Answer {
+        let (number, after) = split(calls::row(&self.shaper, row));
+        self.shape = match after {
+            Some((shaper, shape)) => {
+                self.shaper = shaper;
+                shape
+            }
+            None => calls::blank_shape(),
+        };
+        Answer::Row(number)
+    }
+
+    /// Width.
+    fn width(&self, width: &Width) -> Answer {
+        let node = codes::flag(width.has_node).then_some(width.node);
+        let entries = codes::flag(width.has_entries).then_some(width.entries.as_slice());
+        let (number, width) = split(calls::width(&self.shaper, node, entries));
+        Answer::Width(number, width.unwrap_or(0))
+    }
+
+    /// Renderer.
+    fn renderer(&self, drawing: &Drawing) -> Answer {
+        let mut output = Output::new(drawing.length);
+        let lines = calls::renderer(&self.shape, drawing.renderer, drawing.mark);
+        let (number, _) = split(lines.and_then(|lines| output.write(&lines)));
+        Answer::Renderer(number, output)
+    }
+
+    /// Text, unless the crate's state cannot hold the queued line.
+    fn text(&mut self, text: &Text) -> Answer {
+        if !self.state.is_held() {
+            return Answer::NotHeld;
+        }
+        let mut output = Output::new(text.drawing.length);
+        let written = calls::text(&self.shaper, &self.state, text);
+        let (number, after) = split(written.and_then(|written| {
+            output.write(&written.text)?;
+            Ok(written)
+        }));
+        let measure = after
+            .as_ref()
+            .map_or(0, |written| calls::measure(&written.text));
+        if let Some(written) = after {
+            self.shaper = written.shaper;
+            self.state = written.state;
+        }
+        Answer::Text(number, output, measure)
+    }
+
+    /// Quiet repeat; an `X` within it is skipped.
+    fn repeat(&mut self, repeat: &Repeat) -> Answer {
+        for _ in 0..repeat.times {
+            for command in &repeat.commands {
+                if command.letter() != b'X' {
+                    self.run(command);
+                }
+            }
+        }
+        Answer::Repeated(repeat.times)
+    }
+
+    /// The bytes that a renderer call needs, if nothing else refuses it.
+    pub fn renderer_need(&self, drawing: &Drawing) -> Option<usize> {
+        let lines = calls::renderer(&self.shape, drawing.renderer, drawing.mark);
+        lines.ok().map(|lines| lines.len())
+    }
+
+    /// The bytes that a text call needs, if nothing else refuses it.
+    pub fn text_need(&self, text: &Text) -> Option<usize> {
+        let written = calls::text(&self.shaper, &self.state, text);
+        written.ok().map(|written| written.text.len())
+    }
+}
+
+/// The record call.
+fn record(left: &[u8]) -> Answer {
+    let (number, record) = split(records::record(left));
+    Answer::Record(number, record.flatten())
+}
+
+/// The refusal number, 0 for none, and what the call gave.
+fn split<T>(result: Result<T, Refusal>) -> (u8, Option<T>) {
+    match result {
+        Ok(value) => (0, Some(value)),
+        Err(Refusal(number)) => (number, None),
+    }
+}
