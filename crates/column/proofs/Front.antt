@@ -1,10 +1,9 @@
 -- Laws of the first n elements of a list, f of each: what an array and a count stand for, for any type.
-use Prim.Native.Nat.{ℕ, zero, suc, _+_, _≤_, _<_, min}
+use Prim.Native.Nat.{ℕ, zero, suc, _≤_, _<_, min}
 use mathlib.Core.Path.{_≡_, refl, ap, _∙_, sym}
 use mathlib.Core.List.{List, [], _∷_, _++_, map}
 use native.Mathlib.Nat.{not-suc-le-zero, le-of-suc-le-suc, zero-min, min-zero, suc-min-suc}
-use native.Mathlib.Numerals.{add-one}
-use lib.ListN.{length, getD, take, drop, set, length-take, length-map, drop-of-length-le}
+use lib.ListN.{length, getD, take, set, length-take, length-map}
 
 module _ {A B : Type 0} (f : A → B) where
   abbrev pub front : ℕ → List A → List B
@@ -12,20 +11,6 @@ module _ {A B : Type 0} (f : A → B) where
 
   pub length-front : (n : ℕ) (l : List A) → length (front n l) ≡ min n (length l)
   length-front n l = length-map (take n l) f ∙ length-take n l
-
-  -- the element at a place below the count, and those behind it
-  front-drop-suc : (n : ℕ) (l : List A) (i : ℕ) (d : A) → i < n → i < length l → drop i (front n l) ≡ f (getD l i d) ∷ drop (suc i) (front n l)
-  front-drop-suc zero l i d p q = absurd (not-suc-le-zero p)
-  front-drop-suc (suc n) [] i d p q = absurd (not-suc-le-zero q)
-  front-drop-suc (suc n) (x ∷ l) zero d p q = refl
-  front-drop-suc (suc n) (x ∷ l) (suc i) d p q = front-drop-suc n l i d (le-of-suc-le-suc p) (le-of-suc-le-suc q)
-
-  pub front-drop : (n : ℕ) (l : List A) (i : ℕ) (d : A) → i < n → i < length l → drop i (front n l) ≡ f (getD l i d) ∷ drop (i + 1) (front n l)
-  front-drop n l i d p q = rw add-one (front-drop-suc n l i d p q)
-
-  -- past the last place
-  pub front-end : (n : ℕ) (l : List A) (i : ℕ) → min n (length l) ≤ i → drop i (front n l) ≡ []
-  front-end n l i h = drop-of-length-le (front n l) {i = i} (rw length-front h)
 
   pub front-getD : (n : ℕ) (l : List A) (i : ℕ) (d : A) (e : B) → i < n → i < length l → getD (front n l) i e ≡ f (getD l i d)
   front-getD zero l i d e p q = absurd (not-suc-le-zero p)

@@ -1,32 +1,40 @@
 -- Laws of the definitions in specs/Columns.antt, worded for the loops over an array of slots.
 use Prim.Native.Nat.{ℕ, zero, suc, _+_, _-_, _≤_, _<_, min, max}
 use mathlib.Core.Path.{_≡_, refl, ap, _∙_, sym}
-use mathlib.Core.Bool.{Bool, true, false}
+use mathlib.Core.Bool.{Bool, true, false, not, _&&_}
 use mathlib.Core.List.{List, [], _∷_, _++_, map}
 use native.Mathlib.Nat.{not-suc-le-zero, le-of-suc-le-suc}
 use native.Mathlib.Numerals.{add-one}
 use native.Mathlib.Omega.{arith}
-use lib.ListN.{length, getD, drop, set, length-set, List·getD-eq-default}
-use lib.Dec.{ltb}
-use lib.Seq.{lt-length-set, set-out, drop-set-lt, getD-drop, getD-set-same, getD-set-other}
-use borrow.Author.Tests.{ltb-true, ltb-false}
+use lib.ListN.{length, getD, drop, set, length-set, drop-of-length-le, List·getD-eq-default}
+use lib.Dec.{ltb, eqb}
+use lib.Seq.{drop-cons, lt-length-set, set-out, drop-set-lt, getD-drop, getD-set-same, getD-set-other}
+use borrow.Author.Tests.{ltb-true, ltb-false, eqb-true, eqb-false}
 use Rattle.column.specs.declared.Column.{Column}
 use Rattle.column.specs.declared.Column.the-variants.{Empty, Blocked, Reserved, Ancestor, Parent}
 use Rattle.column.specs.declared.Slot.{Slot}
 use Rattle.column.specs.declared.Found.{Found}
 use Rattle.column.specs.declared.Found.the-variants.{At, Nothing}
 use Rattle.column.specs.Columns.{columnLimit, isEmpty, next, first, findEmpty, vacant, unblock, keep, trim, at, put, live, emptySlot, SpareEmpty, Mapped, WasReset}
-use Rattle.column.proofs.Front.{length-front, front-drop, front-end, front-getD, front-set, front-suc, front-clamp}
+use Rattle.column.proofs.Front.{length-front, front-getD, front-set, front-suc, front-clamp}
 
 abbrev pub columnOf : Slot → Column
 columnOf s = s .column
+
+and-false : (b : Bool) → (b && false) ≡ false
+and-false true = refl
+and-false false = refl
+
+and-true : (b : Bool) → (b && true) ≡ b
+and-true true = refl
+and-true false = refl
 
 -- ---- a search that has passed i columns: what is found from there, counted from 0
 abbrev pub later : ℕ → Found → Found
 later i (At j) = At (i + j)
 later i Nothing = Nothing
 
-later-next : (i : ℕ) (f : Found) → later i (next f) ≡ later (i + 1) f
+later-next : (i : ℕ) (f : Found) → later i (next f) ≡ later (suc i) f
 later-next i (At j) = ap At (omega arith)
 later-next i Nothing = refl
 
@@ -34,17 +42,35 @@ pub later-zero : (f : Found) → f ≡ later 0 f
 later-zero (At j) = ap At (omega arith)
 later-zero Nothing = refl
 
-module _ (p : Column → Bool) (n : ℕ) (l : List Slot) (i : ℕ) where
-  module _ (h : i < n) (k : i < length l) where
-    pub first-hit : p ((getD l i emptySlot) .column) ≡ true → later i (first p (drop i (live n l))) ≡ At i
-    first-hit e = rw (front-drop columnOf n l i emptySlot h k, e) (ap At (omega arith))
+module _ (p : Column → Bool) (cs : List Column) (i : ℕ) where
+  pub first-hit : i < length cs → p (at cs i) ≡ true → later i (first p (drop i cs)) ≡ At i
+  first-hit h e = rw (drop-cons cs i Empty h, e) (ap At (omega arith))
 
-    pub first-miss : p ((getD l i emptySlot) .column) ≡ false
-        → later i (first p (drop i (live n l))) ≡ later (i + 1) (first p (drop (i + 1) (live n l)))
-    first-miss e = rw (front-drop columnOf n l i emptySlot h k, e) (later-next i (first p (drop (i + 1) (live n l))))
+  pub first-miss : i < length cs → p (at cs i) ≡ false → later i (first p (drop i cs)) ≡ later (i + 1) (first p (drop (i + 1) cs))
+  first-miss h e = rw (add-one i, drop-cons cs i Empty h, e) (later-next i (first p (drop (suc i) cs)))
 
-  pub first-end : min n (length l) ≤ i → later i (first p (drop i (live n l))) ≡ Nothing
-  first-end h = rw (front-end columnOf n l i h)
+  pub first-end : length cs ≤ i → later i (first p (drop i cs)) ≡ Nothing
+  first-end h = rw (drop-of-length-le cs {i = i} h)
+
+-- a live column is its slot's
+module _ (n : ℕ) (l : List Slot) (i : ℕ) where
+  pub live-at : i < n → i < length l → at (live n l) i ≡ (getD l i emptySlot) .column
+  live-at = front-getD columnOf n l i emptySlot Empty
+
+  pub live-below : i < n → i < length l → i < length (live n l)
+  live-below h k = rw length-front (omega arith)
+
+  pub live-past : min n (length l) ≤ i → length (live n l) ≤ i
+  live-past h = rw length-front h
+
+-- an Empty column but one: that one is read as Blocked
+module _ (cs : List Column) (skip i : ℕ) where
+  other : (b : Bool) → eqb i skip ≡ b → i < length cs → isEmpty (at (set cs skip Blocked) i) ≡ (isEmpty (at cs i) && not b)
+  other true e h = rw (eqb-true i skip e, getD-set-same cs skip Blocked Empty (rw (← eqb-true i skip e) h)) (sym (and-false (isEmpty (at cs skip))))
+  other false e h = rw (getD-set-other cs skip i Blocked Empty (eqb-false i skip e)) (sym (and-true (isEmpty (at cs i))))
+
+  pub other-empty : i < length cs → isEmpty (at (set cs skip Blocked) i) ≡ (isEmpty (at cs i) && not (eqb i skip))
+  other-empty = other (eqb i skip) refl
 
 -- ---- find_empty and vacant
 module _ (n : ℕ) (l : List Slot) (i : ℕ) where

@@ -49,6 +49,28 @@ isEmpty (Reserved n) = false
 isEmpty (Ancestor n) = false
 isEmpty (Parent n) = false
 
+-- whether a column is of one of the kinds that hold an id
+abbrev pub isReserved : Column → Bool
+isReserved Empty = false
+isReserved Blocked = false
+isReserved (Reserved n) = true
+isReserved (Ancestor n) = false
+isReserved (Parent n) = false
+
+abbrev pub isAncestor : Column → Bool
+isAncestor Empty = false
+isAncestor Blocked = false
+isAncestor (Reserved n) = false
+isAncestor (Ancestor n) = true
+isAncestor (Parent n) = false
+
+abbrev pub isParent : Column → Bool
+isParent Empty = false
+isParent Blocked = false
+isParent (Reserved n) = false
+isParent (Ancestor n) = false
+isParent (Parent n) = true
+
 -- "Merging replaces only by a higher rank." (01, point 1)
 abbrev pub merge : Column → Column → Column
 merge old new = cond (ltb (rank old) (rank new)) new old
@@ -124,6 +146,10 @@ live n slots = map (λ (s : Slot). s .column) (take n slots)
 
 abbrev pub emptySlot : Slot
 emptySlot = record { column = Empty }
+
+-- the column of the slot at i, where n are live
+abbrev pub columnAt : Slot → ℕ → ℕ → Column
+columnAt s i n = cond (ltb i n) (s .column) Empty
 
 -- the slots past the count are Empty: nothing that a call gives depends on it, and from a new shaper on it holds
 abbrev pub SpareEmpty : ℕ → List Slot → Type 0

@@ -2,7 +2,8 @@
 // They are held as an array of slots and a count; a count above the limit is read as the limit.
 ghost use mathlib.Core.Path.{_≡_};
 ghost use Prim.Native.Nat.{_+_, _≤_, min, max};
-ghost use Rattle.column.specs.Columns.{columnLimit, rank as rankOf, holds, isEmpty, merge as merged, first, find as findIn, findEmpty, vacant as vacantIn, direct, unblock as unblocked, trim, live, emptySlot, Mapped, WasReset};
+ghost use lib.ListN.{set};
+ghost use Rattle.column.specs.Columns.{columnLimit, rank as rankOf, holds, isEmpty, isReserved, isAncestor, isParent, columnAt, merge as merged, first, find as findIn, findEmpty, vacant as vacantIn, direct, unblock as unblocked, trim, live, emptySlot, Mapped, WasReset};
 
 // The most columns that are held.
 pub const COLUMN_LIMIT: usize = 64;
@@ -57,6 +58,45 @@ impl Column {
             Column::Reserved(_) => false,
             Column::Ancestor(_) => false,
             Column::Parent(_) => false,
+        }
+    }
+
+    // Whether the column is Reserved.
+    pub fn is_reserved(self) -> bool
+        ensures { λ r. ⌜ r ≡ isReserved self ⌝ }
+    {
+        match self {
+            Column::Empty => false,
+            Column::Blocked => false,
+            Column::Reserved(_) => true,
+            Column::Ancestor(_) => false,
+            Column::Parent(_) => false,
+        }
+    }
+
+    // Whether the column is Ancestor.
+    pub fn is_ancestor(self) -> bool
+        ensures { λ r. ⌜ r ≡ isAncestor self ⌝ }
+    {
+        match self {
+            Column::Empty => false,
+            Column::Blocked => false,
+            Column::Reserved(_) => false,
+            Column::Ancestor(_) => true,
+            Column::Parent(_) => false,
+        }
+    }
+
+    // Whether the column is Parent.
+    pub fn is_parent(self) -> bool
+        ensures { λ r. ⌜ r ≡ isParent self ⌝ }
+    {
+        match self {
+            Column::Empty => false,
+            Column::Blocked => false,
+            Column::Reserved(_) => false,
+            Column::Ancestor(_) => false,
+            Column::Parent(_) => true,
         }
     }
 
@@ -119,6 +159,18 @@ impl Slot {
     }
 }
 
+impl Slot {
+    // The slot's column where the slot at `index` is live, else Empty.
+    pub fn column_at(self, index: usize, count: usize) -> Column
+        ensures { λ r. ⌜ r ≡ columnAt self index count ⌝ }
+    {
+        if index < count {
+            return self.column;
+        }
+        Column::Empty
+    }
+}
+
 // The number of live columns.
 pub fn live_count(count: usize) -> usize
     ensures { λ r. ⌜ r ≡ min count columnLimit ⌝ }
@@ -160,6 +212,23 @@ pub fn first_empty(slots: [Slot; COLUMN_LIMIT], count: usize) -> Found
             return Found::At(i);
         }
         i += 1;
+    }
+    Found::Nothing
+}
+
+// The first Empty column but column `skip`.
+pub fn first_other_empty(slots: [Slot; COLUMN_LIMIT], count: usize, skip: usize) -> Found
+    ensures { λ r. ⌜ r ≡ first isEmpty (set (live count slots) skip Column.Blocked) ⌝ }
+{
+    let n = live_count(count);
+    let mut place: usize = 0;
+    while place < n {
+        let slot = slots[place];
+        let column = slot.column;
+        if column.is_empty() & (place != skip) {
+            return Found::At(place);
+        }
+        place += 1;
     }
     Found::Nothing
 }

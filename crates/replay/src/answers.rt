@@ -2,89 +2,86 @@
 use crate::printer::Buffer;
 use crate::printer::Printer;
 use crate::printer::put;
-use crate::printer::put_flag;
+use crate::printer::put_comma;
 use crate::printer::put_named;
 use crate::run::Answer;
 use crate::run::Reply;
+use crate::shapes::put_shape;
+use crate::words;
+use crate::words::Value;
+use crate::words::put_field;
+use crate::words::put_set;
 use column::COLUMN_LIMIT;
 use column::Column;
 use column::Found;
 use column::Slot;
-use render::DashStyle;
-use render::LinkLinePlacement;
-use render::Options;
-use render::Style;
+use render::RowShape;
 use row_shape::HEIGHT_LIMIT;
 use row_shape::Shaper;
 
-// ` dash=D`
-fn put_dash(out: &mut Buffer, printer: Printer, dash_style: DashStyle) -> Printer {
-    match dash_style {
-        DashStyle::Persistent => put(out, printer, b" dash=Persistent"),
-        DashStyle::Once => put(out, printer, b" dash=Once"),
-    }
-}
+// How many fields the shaper's line has in front of the columns.
+const FIELDS: u32 = 5;
 
-// ` placement=P`
-fn put_placement(out: &mut Buffer, printer: Printer, placement: LinkLinePlacement) -> Printer {
-    match placement {
-        LinkLinePlacement::Top => put(out, printer, b" placement=Top"),
-        LinkLinePlacement::Bottom => put(out, printer, b" placement=Bottom"),
-    }
-}
-
-// ` dash=D placement=P`
-fn put_style(out: &mut Buffer, printer: Printer, style: Style) -> Printer {
-    let dash_style = style.dash_style;
-    let dashed = put_dash(out, printer, dash_style);
-    let placement = style.link_line_placement;
-    put_placement(out, dashed, placement)
-}
-
-// `height=H stagger=S`, and the style. A height above the limit is read as the limit.
-fn put_options(out: &mut Buffer, printer: Printer, options: Options) -> Printer {
+// What the field with this number holds. A height above the limit is read as the limit.
+fn field(shaper: Shaper, number: u32) -> Value {
+    let options = shaper.options;
+    let style = options.graph_row_shape_style;
+    let previous = shaper.previous_node_column;
     let given = options.min_row_height;
     let height = if HEIGHT_LIMIT < given {
         HEIGHT_LIMIT
     } else {
         given
     };
-    let high = put_named(out, printer, b"height=", height as u64);
-    let staggered = put_flag(
-        out,
-        high,
-        b" stagger=",
-        options.stagger_consecutive_disconnected_nodes,
-    );
-    let style = options.graph_row_shape_style;
-    put_style(out, staggered, style)
+    match number {
+        0 => words::number(height as u64),
+        1 => words::flag(options.stagger_consecutive_disconnected_nodes),
+        2 => words::dash(style),
+        3 => words::placement(style),
+        _ => words::found(previous),
+    }
 }
 
-// ` previous=V`
-fn put_previous(out: &mut Buffer, printer: Printer, previous: Found) -> Printer {
-    match previous {
-        Found::At(index) => put_named(out, printer, b" previous=", index as u64),
-        Found::Nothing => put(out, printer, b" previous=none"),
+// The fields in front of the columns.
+fn put_fields(out: &mut Buffer, printer: Printer, names: &[u8], shaper: Shaper) -> Printer {
+    let mut now = printer;
+    let mut number: u32 = 0;
+    while number < FIELDS {
+        now = put_field(out, now, names, number, field(shaper, number));
+        number += 1;
+    }
+    now
+}
+
+// A column's kind.
+fn kind(column: Column) -> u32 {
+    match column {
+        Column::Empty => words::EMPTY,
+        Column::Blocked => words::BLOCKED,
+        Column::Reserved(_) => words::RESERVED,
+        Column::Ancestor(_) => words::ANCESTOR,
+        Column::Parent(_) => words::PARENT,
+    }
+}
+
+// The id that a column holds.
+fn id(column: Column) -> Found {
+    match column {
+        Column::Empty => Found::Nothing,
+        Column::Blocked => Found::Nothing,
+        Column::Reserved(id) => Found::At(id as usize),
+        Column::Ancestor(id) => Found::At(id as usize),
+        Column::Parent(id) => Found::At(id as usize),
     }
 }
 
 // One column.
 fn put_column(out: &mut Buffer, printer: Printer, column: Column) -> Printer {
-    match column {
-        Column::Empty => put(out, printer, b"Empty"),
-        Column::Blocked => put(out, printer, b"Blocked"),
-        Column::Reserved(id) => put_named(out, printer, b"Reserved ", id as u64),
-        Column::Ancestor(id) => put_named(out, printer, b"Ancestor ", id as u64),
-        Column::Parent(id) => put_named(out, printer, b"Parent ", id as u64),
-    }
-}
-
-// The comma in front of every item but the first.
-fn put_comma(out: &mut Buffer, printer: Printer, item: usize) -> Printer {
-    if item == 0 {
-        return printer;
-    }
-    put(out, printer, b",")
+    let kind = put_set(out, printer, kind(column));
+    let Found::At(id) = id(column) else {
+        return kind;
+    };
+    put_named(out, kind, b" ", id as u64)
 }
 
 // ` columns=COLUMNS`: the live columns, joined by commas.
@@ -100,7 +97,7 @@ fn put_columns(
     while i < live {
         let slot = slots[i];
         let column = slot.column;
-        let joined = put_comma(out, now, i);
+        let joined = put_comma(out, now, i == 0);
         now = put_column(out, joined, column);
         i += 1;
     }
@@ -109,13 +106,14 @@ fn put_columns(
 
 // The shaper's line.
 fn put_shaper(out: &mut Buffer, printer: Printer, shaper: Shaper) -> Printer {
-    let named = put(out, printer, b"shaper ");
-    let options = shaper.options;
-    let with_options = put_options(out, named, options);
-    let previous = shaper.previous_node_column;
-    let with_previous = put_previous(out, with_options, previous);
+    let fields = put_fields(
+        out,
+        printer,
+        b"shaper height=| stagger=| dash=| placement=| previous=|",
+        shaper,
+    );
     let slots = shaper.slots;
-    let whole = put_columns(out, with_previous, slots, shaper.count);
+    let whole = put_columns(out, fields, slots, shaper.count);
     put(out, whole, b"\n")
 }
 
@@ -152,6 +150,25 @@ fn put_reserve(out: &mut Buffer, printer: Printer, refusal: u8, shaper: Shaper) 
     put_shaper(out, line, shaper)
 }
 
+// `row REFUSAL`, then the shape and the shaper.
+fn put_row(
+    out: &mut Buffer,
+    printer: Printer,
+    refusal: u8,
+    shape: RowShape,
+    shaper: Shaper,
+) -> Printer {
+    let line = put_line(out, printer, b"row ", refusal as u64);
+    let after = put_shape(out, line, shape);
+    put_shaper(out, after, shaper)
+}
+
+// `width REFUSAL WIDTH`
+fn put_width(out: &mut Buffer, printer: Printer, refusal: u8, width: u64) -> Printer {
+    let line = put_named(out, printer, b"width ", refusal as u64);
+    put_line(out, line, b" ", width)
+}
+
 // `repeated TIMES`, then the shaper and the text state.
 fn put_repeated(out: &mut Buffer, printer: Printer, times: u32, shaper: Shaper) -> Printer {
     let line = put_line(out, printer, b"repeated ", times as u64);
@@ -163,13 +180,17 @@ fn put_repeated(out: &mut Buffer, printer: Printer, times: u32, shaper: Shaper) 
 pub(crate) fn put_reply(out: &mut Buffer, printer: Printer, reply: Reply) -> Printer {
     let state = reply.state;
     let shaper = state.shaper;
+    let shape = state.shape;
     let answer = reply.answer;
     match answer {
         Answer::NotBuilt => put_not_built(out, printer),
         Answer::List(number) => put_list(out, printer, number),
         Answer::New(refusal) => put_new(out, printer, refusal, shaper),
         Answer::Reserve(refusal) => put_reserve(out, printer, refusal, shaper),
+        Answer::Row(refusal) => put_row(out, printer, refusal, shape, shaper),
+        Answer::Width(refusal, width) => put_width(out, printer, refusal, width),
         Answer::Shaper => put_shaper(out, printer, shaper),
+        Answer::Shape => put_shape(out, printer, shape),
         Answer::Repeated(times) => put_repeated(out, printer, times, shaper),
     }
 }

@@ -2,19 +2,35 @@
 use crate::input::after;
 use crate::input::flag_at;
 use crate::input::u8_at;
+use crate::input::u16_at;
 use crate::input::u32_at;
 use crate::input::u64_at;
 use column::COLUMN_LIMIT;
 use column::Column;
 use column::Found;
 use column::Slot;
+use render::Ancestor;
+use render::Cell;
 use render::DashStyle;
+use render::Entries;
+use render::Entry;
+use render::LinkLine;
 use render::LinkLinePlacement;
+use render::NodeLine;
 use render::Options;
+use render::PadLine;
+use render::RowShape;
 use render::Style;
+use row_shape::NewNode;
 
 // The bytes of a slot: its kind and its id.
 const SLOT: usize = 5;
+
+// The bytes of an entry: its kind and its id.
+const ENTRY: usize = 5;
+
+// The bytes of a cell: node, link, link from node, term, ancestry, parent.
+const CELL: usize = 8;
 
 // The dash style with this code.
 fn dash(code: u8) -> DashStyle {
@@ -99,4 +115,123 @@ pub(crate) fn slots_at(payload: &[u8], at: usize) -> [Slot; COLUMN_LIMIT] {
         i += 1;
     }
     slots
+}
+
+// The parent entry with this kind and id; a kind above 2 is Anonymous.
+fn ancestor(kind: u8, id: u32) -> Ancestor {
+    match kind {
+        1 => Ancestor::Ancestor(id),
+        2 => Ancestor::Parent(id),
+        _ => Ancestor::Anonymous,
+    }
+}
+
+// The entry at a place: kind, id.
+fn entry_at(payload: &[u8], at: usize) -> Entry {
+    let ancestor = ancestor(u8_at(payload, at), u32_at(payload, after(at, 1)));
+    Entry { ancestor }
+}
+
+// The entries at a place: how many are given, then those.
+pub(crate) fn entries_at(payload: &[u8], at: usize) -> Entries {
+    let given = u16_at(payload, at);
+    let mut entries = Entries::none();
+    let mut place = after(at, 2);
+    let mut i: u16 = 0;
+    while i < given {
+        entries = entries.push(entry_at(payload, place));
+        place = after(place, ENTRY);
+        i += 1;
+    }
+    entries
+}
+
+// The entries at a place, if there are any: flag, entries. Absent ones are none.
+pub(crate) fn optional_entries_at(payload: &[u8], at: usize) -> Entries {
+    if flag_at(payload, at) {
+        return entries_at(payload, after(at, 1));
+    }
+    Entries::none()
+}
+
+// The node at a place, if there is one: flag, id.
+pub(crate) fn new_node_at(payload: &[u8], at: usize) -> NewNode {
+    if flag_at(payload, at) {
+        return NewNode::Node(u32_at(payload, after(at, 1)));
+    }
+    NewNode::Absent
+}
+
+// The node line's cell with this code; one above 3 is blank.
+fn node_line(code: u8) -> NodeLine {
+    match code {
+        1 => NodeLine::Ancestor,
+        2 => NodeLine::Parent,
+        3 => NodeLine::Node,
+        _ => NodeLine::Blank,
+    }
+}
+
+// The ancestry line's cell with this code; one above 2 is blank.
+fn pad_line(code: u8) -> PadLine {
+    match code {
+        1 => PadLine::Ancestor,
+        2 => PadLine::Parent,
+        _ => PadLine::Blank,
+    }
+}
+
+// The cell at a place: node, link, link from node, term, ancestry, parent.
+fn cell_at(payload: &[u8], at: usize) -> Cell {
+    let node = node_line(u8_at(payload, at));
+    let link = LinkLine {
+        bits: u16_at(payload, after(at, 1)),
+    };
+    let link_from_node = LinkLine {
+        bits: u16_at(payload, after(at, 3)),
+    };
+    let ancestry = pad_line(u8_at(payload, after(at, 6)));
+    Cell {
+        node,
+        link,
+        link_from_node,
+        term: flag_at(payload, after(at, 5)),
+        ancestry,
+        parent: flag_at(payload, after(at, 7)),
+    }
+}
+
+// The cells at a place: how many are given, then those. Cells not given are blank.
+fn cells_at(payload: &[u8], at: usize) -> [Cell; COLUMN_LIMIT] {
+    let given = column::live_count(u8_at(payload, at) as usize);
+    let blank = Cell::blank();
+    let mut cells = [blank; COLUMN_LIMIT];
+    let mut place = after(at, 1);
+    let mut i: usize = 0;
+    while i < given {
+        cells[i] = cell_at(payload, place);
+        place = after(place, CELL);
+        i += 1;
+    }
+    cells
+}
+
+// The shape at the payload's beginning: node (at 0), merge (4), separator (5), style (6), head (8), root (9), node column (10),
+// width (18), whether it has a link line (26) and a term line (27), cells (28).
+pub(crate) fn shape(payload: &[u8]) -> RowShape {
+    let style = style_at(payload, 6);
+    let cells = cells_at(payload, 28);
+    RowShape {
+        node: u32_at(payload, 0),
+        merge: flag_at(payload, 4),
+        separator_line: flag_at(payload, 5),
+        style,
+        is_head: flag_at(payload, 8),
+        is_root: flag_at(payload, 9),
+        node_column: u64_at(payload, 10) as usize,
+        width: u64_at(payload, 18) as usize,
+        link_line: flag_at(payload, 26),
+        term_line: flag_at(payload, 27),
+        cells,
+    }
 }

@@ -4,6 +4,8 @@ mod codes;
 mod input;
 mod printer;
 mod run;
+mod shapes;
+mod words;
 
 use input::Bytes;
 use input::HEADER;

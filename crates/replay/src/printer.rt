@@ -109,11 +109,10 @@ pub(crate) fn put_named(out: &mut Buffer, printer: Printer, name: &[u8], number:
     put_number(out, named, number)
 }
 
-// Prints a name and `yes` or `no` behind it.
-pub(crate) fn put_flag(out: &mut Buffer, printer: Printer, name: &[u8], flag: bool) -> Printer {
-    let named = put(out, printer, name);
-    if flag {
-        return put(out, named, b"yes");
+// The comma in front of every item but the first.
+pub(crate) fn put_comma(out: &mut Buffer, printer: Printer, first: bool) -> Printer {
+    if first {
+        return printer;
     }
-    put(out, named, b"no")
+    put(out, printer, b",")
 }

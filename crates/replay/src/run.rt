@@ -2,13 +2,16 @@
 use crate::codes;
 use crate::input;
 use crate::input::HEADER;
+use render::Entries;
 use render::Options;
+use render::RowShape;
 use row_shape::HEIGHT_LIMIT;
 use row_shape::Shaper;
 
 // What the commands work on.
 pub(crate) struct State {
     pub(crate) shaper: Shaper,
+    pub(crate) shape: RowShape,
 }
 
 // What a command answers, beside the state that it leaves. The calls give their refusal's number.
@@ -17,7 +20,10 @@ pub(crate) enum Answer {
     List(u32),
     New(u8),
     Reserve(u8),
+    Row(u8),
+    Width(u8, u64),
     Shaper,
+    Shape,
     Repeated(u32),
 }
 
@@ -28,7 +34,7 @@ pub(crate) struct Reply {
 }
 
 impl State {
-    // The state at the beginning of a stream or a list: the shaper is the one that a refused new shaper call gives.
+    // The state at the beginning of a stream or a list: the shaper and the shape are those that refused calls give.
     pub(crate) fn new() -> State {
         let graph_row_shape_style = codes::style(0, 0);
         let too_high = Options {
@@ -38,7 +44,11 @@ impl State {
         };
         let refused = Shaper::with_options(too_high);
         let shaper = refused.shaper;
-        State { shaper }
+        let mut entries = Entries::none();
+        entries.too_many = true;
+        let refused_row = shaper.next_row_shape(0, entries);
+        let shape = refused_row.shape;
+        State { shaper, shape }
     }
 }
 
@@ -77,6 +87,29 @@ fn reserve(payload: &[u8], state: State) -> Reply {
     }
 }
 
+// `W`: node (at 0), entries (4).
+fn row(payload: &[u8], state: State) -> Reply {
+    let before = state.shaper;
+    let given = before.next_row_shape(input::u32_at(payload, 0), codes::entries_at(payload, 4));
+    let answer = Answer::Row(given.refusal);
+    let shaper = given.shaper;
+    let shape = given.shape;
+    let after = State { shaper, shape };
+    Reply {
+        answer,
+        state: after,
+    }
+}
+
+// `V`: node (at 0), entries (5).
+fn width(payload: &[u8], state: State) -> Reply {
+    let shaper = state.shaper;
+    let node = codes::new_node_at(payload, 0);
+    let given = shaper.width(node, codes::optional_entries_at(payload, 5));
+    let answer = Answer::Width(given.refusal, given.width as u64);
+    Reply { answer, state }
+}
+
 // `S`: count (at 0), previous (8), options (17), slots (28).
 fn set_shaper(payload: &[u8], state: State) -> Reply {
     let slots = codes::slots_at(payload, 28);
@@ -98,6 +131,18 @@ fn set_shaper(payload: &[u8], state: State) -> Reply {
     }
 }
 
+// `H`: shape.
+fn set_shape(payload: &[u8], state: State) -> Reply {
+    let shape = codes::shape(payload);
+    let mut after = state;
+    after.shape = shape;
+    let answer = Answer::Shape;
+    Reply {
+        answer,
+        state: after,
+    }
+}
+
 // Any other letter changes nothing.
 fn not_built(state: State) -> Reply {
     let answer = Answer::NotBuilt;
@@ -110,7 +155,10 @@ fn call(letter: u8, payload: &[u8], state: State) -> Reply {
         b'L' => list(payload),
         b'N' => new_shaper(payload, state),
         b'R' => reserve(payload, state),
+        b'W' => row(payload, state),
+        b'V' => width(payload, state),
         b'S' => set_shaper(payload, state),
+        b'H' => set_shape(payload, state),
         _ => not_built(state),
     }
 }

@@ -15,13 +15,20 @@ use Rattle.column.specs.Columns.{columnLimit, isEmpty, first, find, orElse, vac
 use Rattle.column.proofs.Slot.{the-type}
 use Rattle.column.proofs.Front.{length-front}
 use Rattle.column.proofs.Laws.{columnOf, first-below, live-put, spare-put}
+use Rattle.render.specs.declared.render.Entry.{Entry}
 use Rattle.render.specs.declared.types.Options.{Options}
+use Rattle.render.specs.Entries.{entryLimit}
+use Rattle.render.proofs.render.Entry as Entry′
 use Rattle.row_shape.specs.declared.Shaper.{Shaper}
 use Rattle.row_shape.specs.Shaper.{heightLimit, View, viewOf, Reply, fresh, refusedOptions, Fresh, isNothing, withColumns, reserve, Reserves}
 
 -- an array of slots has 64, by what the prover knows of an array that is a struct's field
 pub slots-long : (l : List Slot) → length (map (the-type .to) l) ≡ columnLimit → length l ≡ columnLimit
 slots-long l e = sym (length-map l (the-type .to)) ∙ e
+
+-- and an array of entries has 32
+pub entries-long : (l : List Entry) → length (map (Entry′.the-type .to) l) ≡ entryLimit → length l ≡ entryLimit
+entries-long l e = sym (length-map l (Entry′.the-type .to)) ∙ e
 
 -- ---- the new shaper call
 module _ (o : Options) where

@@ -1,2 +1,9 @@
 pub mod Refusals
 pub mod Shaper
+pub mod Placing
+pub mod Links
+pub mod Inner
+pub mod Row
+pub mod Lines
+pub mod Width
+pub mod Marked

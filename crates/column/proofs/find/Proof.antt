@@ -6,7 +6,7 @@ use native.Mathlib.Omega.{arith}
 use borrow.Author.Needs.{needs}
 use lib.ListN.{drop}
 use Rattle.column.specs.Columns.{live, first, holds}
-use Rattle.column.proofs.Laws.{later, later-zero, first-hit, first-miss, first-end}
+use Rattle.column.proofs.Laws.{later, later-zero, first-hit, first-miss, first-end, live-at, live-below, live-past}
 
 abbrev Inv-loop : tie.InvT-loop
 Inv-loop count node slots n index₀ index = (index ≤ n) × (first (holds node) (live count slots) ≡ later index (first (holds node) (drop index (live count slots))))
@@ -31,7 +31,8 @@ matches-requires c κs = search needs
 
 returns : tie.Need-returns Inv-loop μ-loop
 returns c = let a = c .before .before .before .before .before .before .args in
-    sym (c .before .before .before .before .loop .inv .1 ∙ first-hit (holds (a .node)) (a .count) (a .t1) (c .before .before .before .before .loop .index) (omega arith) (omega arith) (sym (c .before .matches .ensures) ∙ c .if1 .taken))
+    sym (c .before .before .before .before .loop .inv .1 ∙ first-hit (holds (a .node)) (live (a .count) (a .t1)) (c .before .before .before .before .loop .index) (live-below (a .count) (a .t1) (c .before .before .before .before .loop .index) (omega arith) (omega arith))
+    (rw (live-at (a .count) (a .t1) (c .before .before .before .before .loop .index) (omega arith) (omega arith)) (sym (c .before .matches .ensures) ∙ c .if1 .taken)))
 
 add-index : tie.Need-add-index Inv-loop μ-loop
 add-index c = search needs
@@ -40,12 +41,15 @@ loop-less : tie.Need-loop-less Inv-loop μ-loop
 loop-less c = search needs
 
 loop-again : tie.Need-loop-again Inv-loop μ-loop
-loop-again c = let a = c .before .before .before .before .before .before .args in
-    (omega arith, c .before .before .before .before .loop .inv .1 ∙ first-miss (holds (a .node)) (a .count) (a .t1) (c .before .before .before .before .loop .index) (omega arith) (omega arith) (sym (c .before .matches .ensures) ∙ c .if1 .left))
+loop-again c = let a = c .before .before .before .before .before .before .args in (
+  omega arith,
+  c .before .before .before .before .loop .inv .1 ∙ first-miss (holds (a .node)) (live (a .count) (a .t1)) (c .before .before .before .before .loop .index) (live-below (a .count) (a .t1) (c .before .before .before .before .loop .index) (omega arith) (omega arith))
+      (rw (live-at (a .count) (a .t1) (c .before .before .before .before .loop .index) (omega arith) (omega arith)) (sym (c .before .matches .ensures) ∙ c .if1 .left)),
+)
 
 returns-2 : tie.Need-returns-2 Inv-loop μ-loop
 returns-2 c = let a = c .before .before .before .args in
-    sym (c .before .loop .inv .1 ∙ first-end (holds (a .node)) (a .count) (a .t1) (c .before .loop .index) (omega arith))
+    sym (c .before .loop .inv .1 ∙ first-end (holds (a .node)) (live (a .count) (a .t1)) (c .before .loop .index) (live-past (a .count) (a .t1) (c .before .loop .index) (omega arith)))
 
 pub find-spec : {M : Type 1} → statement M
 find-spec =

@@ -6,7 +6,7 @@ use native.Mathlib.Omega.{arith}
 use borrow.Author.Needs.{needs}
 use lib.ListN.{drop}
 use Rattle.column.specs.Columns.{live, first, isEmpty}
-use Rattle.column.proofs.Laws.{later, later-zero, first-hit, first-miss, first-end}
+use Rattle.column.proofs.Laws.{later, later-zero, first-hit, first-miss, first-end, live-at, live-below, live-past}
 
 abbrev Inv-loop : tie.InvT-loop
 Inv-loop count slots n i₀ i = (i ≤ n) × (first isEmpty (live count slots) ≡ later i (first isEmpty (drop i (live count slots))))
@@ -31,7 +31,8 @@ is-empty-requires c κs = search needs
 
 returns : tie.Need-returns Inv-loop μ-loop
 returns c = let a = c .before .before .before .before .before .before .args in
-    sym (c .before .before .before .before .loop .inv .1 ∙ first-hit isEmpty (a .count) (a .t1) (c .before .before .before .before .loop .i) (omega arith) (omega arith) (sym (c .before .is-empty .ensures) ∙ c .if1 .taken))
+    sym (c .before .before .before .before .loop .inv .1 ∙ first-hit isEmpty (live (a .count) (a .t1)) (c .before .before .before .before .loop .i) (live-below (a .count) (a .t1) (c .before .before .before .before .loop .i) (omega arith) (omega arith))
+    (rw (live-at (a .count) (a .t1) (c .before .before .before .before .loop .i) (omega arith) (omega arith)) (sym (c .before .is-empty .ensures) ∙ c .if1 .taken)))
 
 add-i : tie.Need-add-i Inv-loop μ-loop
 add-i c = search needs
@@ -40,12 +41,15 @@ loop-less : tie.Need-loop-less Inv-loop μ-loop
 loop-less c = search needs
 
 loop-again : tie.Need-loop-again Inv-loop μ-loop
-loop-again c = let a = c .before .before .before .before .before .before .args in
-    (omega arith, c .before .before .before .before .loop .inv .1 ∙ first-miss isEmpty (a .count) (a .t1) (c .before .before .before .before .loop .i) (omega arith) (omega arith) (sym (c .before .is-empty .ensures) ∙ c .if1 .left))
+loop-again c = let a = c .before .before .before .before .before .before .args in (
+  omega arith,
+  c .before .before .before .before .loop .inv .1 ∙ first-miss isEmpty (live (a .count) (a .t1)) (c .before .before .before .before .loop .i) (live-below (a .count) (a .t1) (c .before .before .before .before .loop .i) (omega arith) (omega arith))
+      (rw (live-at (a .count) (a .t1) (c .before .before .before .before .loop .i) (omega arith) (omega arith)) (sym (c .before .is-empty .ensures) ∙ c .if1 .left)),
+)
 
 returns-2 : tie.Need-returns-2 Inv-loop μ-loop
 returns-2 c = let a = c .before .before .before .args in
-    sym (c .before .loop .inv .1 ∙ first-end isEmpty (a .count) (a .t1) (c .before .loop .i) (omega arith))
+    sym (c .before .loop .inv .1 ∙ first-end isEmpty (live (a .count) (a .t1)) (c .before .loop .i) (live-past (a .count) (a .t1) (c .before .loop .i) (omega arith)))
 
 pub first-empty-spec : {M : Type 1} → statement M
 first-empty-spec =

@@ -1,0 +1,49 @@
+-- Parent entries (01, point 2), and the list that an array of them stands for.
+use Prim.Native.Nat.{ℕ, suc}
+use mathlib.Core.Bool.{Bool, true, false, cond, _||_}
+use mathlib.Core.List.{List, map}
+use mathlib.Core.Option.{Option, none, some}
+use lib.Dec.{ltb, leb}
+use lib.ListN.{take, set, replicate}
+use Rattle.render.specs.declared.render.Ancestor.{Ancestor}
+use Rattle.render.specs.declared.render.Ancestor.the-variants.{Ancestor as Indirect, Parent as Direct, Anonymous}
+use Rattle.render.specs.declared.render.Entry.{Entry}
+use Rattle.render.specs.declared.render.Entries.{Entries}
+
+-- "more than 32 entries" (01, the table's row for row, width, text)
+abbrev pub entryLimit : ℕ
+entryLimit = 32
+
+-- "Anonymous (no id ..)" (01, point 2; `ancestor_id` in graph_to_row_shape.rs)
+abbrev pub entryId : Ancestor → Option ℕ
+entryId (Indirect n) = some n
+entryId (Direct n) = some n
+entryId Anonymous = none
+
+-- "Ancestor (indirect), Parent (direct), Anonymous (.. counts as direct ..)" (01, point 2; `ancestor_is_direct`)
+abbrev pub isDirect : Ancestor → Bool
+isDirect (Indirect n) = false
+isDirect (Direct n) = true
+isDirect Anonymous = true
+
+abbrev pub isAnonymous : Ancestor → Bool
+isAnonymous (Indirect n) = false
+isAnonymous (Direct n) = false
+isAnonymous Anonymous = true
+
+-- the entries that are given: the first ones of the array
+abbrev pub listed : Entries → List Ancestor
+listed es = map (λ (e : Entry). e .ancestor) (take (es .count) (es .list))
+
+-- whether there are more than 32, whatever the array holds
+abbrev pub tooMany : Entries → Bool
+tooMany es = es .«too_many» || ltb entryLimit (es .count)
+
+abbrev pub noEntries : Entries
+noEntries = record { list = replicate entryLimit (record { ancestor = Anonymous }); count = 0; «too_many» = false }
+
+-- one entry more, while there is room; else there are too many
+abbrev pub pushed : Entries → Entry → Entries
+pushed es e =
+    cond (leb entryLimit (es .count)) (record { list = es .list; count = es .count; «too_many» = true })
+    (record { list = set (es .list) (es .count) e; count = suc (es .count); «too_many» = es .«too_many» })
