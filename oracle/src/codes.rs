@@ -88,6 +88,14 @@ pub fn column(slot: &Slot) -> Column<u32> {
     }
 }
 
+/// The id that a column holds.
+pub fn held(column: &Column<u32>) -> Option<u32> {
+    match column {
+        Column::Empty | Column::Blocked => None,
+        Column::Reserved(id) | Column::Ancestor(id) | Column::Parent(id) => Some(*id),
+    }
+}
+
 /// The node cell; a code above 3 is blank.
 pub fn node_cell(code: u8) -> NodeLine {
     match code {

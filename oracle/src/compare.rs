@@ -10,7 +10,6 @@ use std::time::Instant;
 
 use crate::answering::answered;
 use crate::answering::answers_of;
-use crate::generator;
 use crate::machine::Counts;
 use crate::refusals;
 use crate::replay::Ended;
@@ -29,10 +28,13 @@ const LINES_SHOWN: usize = 60;
 /// How long one short list may take while a difference is made smaller.
 const SHORT_RUN: Duration = Duration::from_secs(5);
 
+/// Gives the list with each number.
+pub type Source = Box<dyn Fn(u32) -> Vec<Command> + Sync>;
+
 /// What is compared.
 pub struct Task {
     pub lists: u32,
-    pub seed: u64,
+    pub source: Source,
     pub replay: Replay,
     pub built: Letters,
     pub threads: u32,
@@ -41,9 +43,9 @@ pub struct Task {
 
 /// What came out of a comparison.
 #[derive(Default)]
-struct Findings {
+pub struct Findings {
     lists: u32,
-    counts: Counts,
+    pub counts: Counts,
     difference: Option<Vec<Command>>,
 }
 
@@ -102,12 +104,23 @@ impl Findings {
 impl Task {
     /// Compares, prints what came out, and says whether there was no difference.
     pub fn run(&self) -> bool {
+        let findings = self.findings();
+        if let Some(findings) = &findings {
+            findings.print();
+        }
+        findings.is_some()
+    }
+
+    /// Compares; a difference is printed, and there are no findings then.
+    pub fn findings(&self) -> Option<Findings> {
         let findings = self.compare();
         match &findings.difference {
-            Some(commands) => self.report(commands.clone()),
-            None => findings.print(),
+            Some(commands) => {
+                self.report(commands.clone());
+                None
+            }
+            None => Some(findings),
         }
-        findings.difference.is_none()
     }
 
     /// Compares, in as many threads as asked.
@@ -147,7 +160,7 @@ impl Task {
             counts: Counts::default(),
         };
         for number in numbers {
-            let commands = generator::list(self.seed, number, &self.built);
+            let commands = (self.source)(number);
             let (stream, answers, counts) = answered(&commands, &self.built);
             let start = chunk.answers.len();
             chunk.places.push(start..start + answers.len());
@@ -197,6 +210,7 @@ impl Task {
         println!("stream, hexadecimal:\n  {}", hexadecimal(&stream));
         print_answers("the Rust answers:", &answers, &run.printed);
         print_answers("the program answers:", &run.printed, &answers);
+        print_characters(&answers, &run.printed);
         if let Ended::Badly(words) = &run.ended {
             println!("the program: {words}");
         }
@@ -231,6 +245,33 @@ fn print_answers(title: &str, answers: &[u8], other: &[u8]) {
         let line = line.strip_suffix(b"\n").unwrap_or(line);
         println!("{pointer} {}", line.escape_ascii());
     }
+}
+
+/// Prints the first line that differs as characters; what is not printed stands as its code.
+fn print_characters(answers: &[u8], printed: &[u8]) {
+    let place = first_difference(answers, printed);
+    println!("first line that differs, in characters:");
+    println!("  the Rust:    {}", characters(&line_at(answers, place)));
+    println!("  the program: {}", characters(&line_at(printed, place)));
+}
+
+/// The line around a place.
+fn line_at(text: &[u8], place: usize) -> Vec<u8> {
+    let (before, after) = text.split_at(place);
+    let start = before.rsplit(|byte| *byte == b'\n').next();
+    let end = after.split(|byte| *byte == b'\n').next();
+    [start, end].map(Option::unwrap_or_default).concat()
+}
+
+/// Bytes as the characters that they are in UTF-8, if they are.
+fn characters(bytes: &[u8]) -> String {
+    let chunks = bytes.utf8_chunks();
+    chunks
+        .map(|chunk| {
+            let (valid, invalid) = (chunk.valid().escape_debug(), chunk.invalid().escape_ascii());
+            format!("{valid}{invalid}")
+        })
+        .collect()
 }
 
 /// Bytes in hexadecimal.

@@ -1,6 +1,8 @@
 //! Seeded lists of commands, made to collide: few ids, repeats, full columns, and every limit from both sides.
 
+mod drawings;
 mod hand_made;
+mod histories;
 mod values;
 
 use crate::machine::Machine;
@@ -14,6 +16,9 @@ use crate::stream::Row;
 use crate::stream::Text;
 use crate::stream::Width;
 use crate::stream::ALL_LETTERS;
+
+pub use drawings::drawings;
+pub use histories::history;
 
 /// What the commands of a list are mostly about, as weights of the letters in `ALL_LETTERS`.
 type Theme = [u64; ALL_LETTERS.len()];
@@ -42,14 +47,7 @@ pub fn list(seed: u64, number: u32, letters: &Letters) -> Vec<Command> {
     let mut random = Random::new(seed, u64::from(number));
     let ids = values::few_ids(&mut random);
     let theme = theme(&mut random, letters);
-    let mut generator = Generator {
-        random,
-        letters,
-        machine: Machine::new(letters),
-        ids,
-        theme,
-        commands: Vec::new(),
-    };
+    let mut generator = Generator::new(random, letters, ids, theme);
     generator.push(Command::List(number));
     generator.fill();
     generator.commands
@@ -75,7 +73,19 @@ fn theme(random: &mut Random, letters: &Letters) -> Theme {
     themes[random.weighted(&weights)].1
 }
 
-impl Generator<'_> {
+impl<'a> Generator<'a> {
+    /// A list without commands yet.
+    fn new(random: Random, letters: &'a Letters, ids: Vec<u32>, theme: Theme) -> Self {
+        Self {
+            random,
+            letters,
+            machine: Machine::new(letters),
+            ids,
+            theme,
+            commands: Vec::new(),
+        }
+    }
+
     /// Adds a command and runs it, if it is built.
     fn push(&mut self, command: Command) {
         if self.letters.know(command.letter()) {

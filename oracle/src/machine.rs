@@ -43,7 +43,7 @@ pub enum Answer {
 
 impl Answer {
     /// The refusal number of a call that can be refused.
-    fn refusal(&self) -> Option<u8> {
+    pub fn refusal(&self) -> Option<u8> {
         match self {
             Answer::New(number)
             | Answer::Reserve(number)
@@ -81,11 +81,12 @@ impl Output {
     }
 }
 
-/// How often each call was made, by its letter and refusal number.
+/// How often each call was made, by its letter and refusal number, and how many cells renderer calls drew.
 #[derive(Clone, Debug, Default)]
 pub struct Counts {
     pub calls: BTreeMap<u8, u64>,
     pub refusals: BTreeMap<(u8, u8), u64>,
+    pub cells: u64,
 }
 
 impl Counts {
@@ -105,6 +106,12 @@ impl Counts {
         for (place, count) in &other.refusals {
             *self.refusals.entry(*place).or_default() += count;
         }
+        self.cells += other.cells;
+    }
+
+    /// How often calls with this letter were made.
+    pub fn of_letter(&self, letter: u8) -> u64 {
+        self.calls.get(&letter).copied().unwrap_or(0)
     }
 
     /// How often this refusal number was given, 0 for a call that passed.
@@ -146,6 +153,9 @@ impl Machine {
         }
         let answer = self.call(command);
         self.counts.add(letter, &answer);
+        if let Answer::Renderer(0, _) = answer {
+            self.counts.cells += self.shape.width;
+        }
         answer
     }
 

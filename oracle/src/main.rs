@@ -3,8 +3,10 @@
 mod answering;
 mod answers;
 mod calls;
+mod cells;
 mod codes;
 mod compare;
+mod demand3;
 mod generator;
 mod machine;
 mod marked;
@@ -35,7 +37,11 @@ use std::process::ExitCode;
 use std::str::FromStr;
 use std::time::Duration;
 
+use cells::Part;
+use cells::PARTS;
+use compare::Source;
 use compare::Task;
+use demand3::Fault;
 use replay::Replay;
 use stream::Letters;
 
@@ -43,12 +49,22 @@ use stream::Letters;
 const USAGE: &str = "usage: oracle answer [--built LETTERS]
        oracle generate N SEED [--built LETTERS]
        oracle compare N SEED REPLAY [--built LETTERS] [--threads N] [--seconds S] [--timeout S]
+       oracle cells [--part K]
+       oracle cells-compare REPLAY [--part K] [--built LETTERS] [--threads N] [--timeout S]
+       oracle demand3 N SEED [--mutant K]
        oracle vectors [--built LETTERS]
        oracle page
        oracle listing";
 
 /// The options, each with a value.
-const OPTIONS: [&str; 4] = ["--built", "--threads", "--seconds", "--timeout"];
+const OPTIONS: [&str; 6] = [
+    "--built",
+    "--threads",
+    "--seconds",
+    "--timeout",
+    "--part",
+    "--mutant",
+];
 
 /// How long one run of the program under test may take, in seconds, unless told otherwise.
 const TIMEOUT: u64 = 60;
@@ -65,7 +81,7 @@ fn main() -> ExitCode {
     }
 }
 
-/// Runs the subcommand; no where a comparison found a difference.
+/// Runs the subcommand; no where a comparison found a difference or demand 3 fails.
 fn run(arguments: &Arguments) -> Result<bool, String> {
     let done = match arguments.plain(0)?.as_str() {
         "answer" => answer(&arguments.letters()),
@@ -74,7 +90,10 @@ fn run(arguments: &Arguments) -> Result<bool, String> {
             arguments.number(2)?,
             &arguments.letters(),
         ),
-        "compare" => return Ok(task(arguments)?.run()),
+        "compare" => return Ok(generated(arguments)?.run()),
+        "cells" => cells::write(&arguments.parts()?, &mut io::stdout().lock()),
+        "cells-compare" => return Ok(cells::compare(&drawn(arguments)?)),
+        "demand3" => return demand_3(arguments),
         "vectors" => print(&vectors::stream(&arguments.letters())),
         "page" => input().and_then(|records| programs::page(&records, &mut io::stdout().lock())),
         "listing" => {
@@ -99,10 +118,35 @@ fn generate(lists: u32, seed: u64, letters: &Letters) -> io::Result<()> {
     out.flush()
 }
 
-/// The comparison that the arguments ask for.
-fn task(arguments: &Arguments) -> Result<Task, String> {
+/// The comparison of generated lists that the arguments ask for.
+fn generated(arguments: &Arguments) -> Result<Task, String> {
+    let (seed, letters) = (arguments.number(2)?, arguments.letters());
+    let source = Box::new(move |number| generator::list(seed, number, &letters));
+    let task = task(arguments, arguments.number(1)?, source, 3)?;
+    Ok(Task {
+        seconds: arguments.option_number("--seconds")?,
+        ..task
+    })
+}
+
+/// The comparisons of drawn cells that the arguments ask for. Nothing would be compared if shapes and renderer calls were not built.
+fn drawn(arguments: &Arguments) -> Result<Vec<(&'static Part, Task)>, String> {
+    let letters = arguments.letters();
+    if !letters.know(b'H') || !letters.know(b'P') {
+        return Err("H and P are not both built, so nothing would be compared".to_owned());
+    }
+    let parts = arguments.parts()?.into_iter();
+    let tasks = parts.map(|part| {
+        let source = Box::new(|number| part.list(number));
+        Ok((part, task(arguments, part.lists, source, 1)?))
+    });
+    tasks.collect()
+}
+
+/// A comparison without a time limit; the program under test is the argument at `place`.
+fn task(arguments: &Arguments, lists: u32, source: Source, place: usize) -> Result<Task, String> {
     let limit = arguments.option_number("--timeout")?.unwrap_or(TIMEOUT);
-    let program = PathBuf::from(arguments.plain(3)?);
+    let program = PathBuf::from(arguments.plain(place)?);
     if !program.is_file() {
         return Err(format!(
             "{} is not there; build it first",
@@ -110,16 +154,27 @@ fn task(arguments: &Arguments) -> Result<Task, String> {
         ));
     }
     Ok(Task {
-        lists: arguments.number(1)?,
-        seed: arguments.number(2)?,
+        lists,
+        source,
         replay: Replay {
             program,
             limit: Duration::from_secs(limit),
         },
         built: arguments.letters(),
         threads: arguments.option_number("--threads")?.unwrap_or(1),
-        seconds: arguments.option_number("--seconds")?,
+        seconds: None,
     })
+}
+
+/// Tries demand 3, of the Rust or of a wrong machine.
+fn demand_3(arguments: &Arguments) -> Result<bool, String> {
+    let number: Option<u8> = arguments.option_number("--mutant")?;
+    let fault = number.map(|number| Fault::new(number).ok_or("mutants are 1 to 5"));
+    Ok(demand3::run(
+        arguments.number(1)?,
+        arguments.number(2)?,
+        fault.transpose()?,
+    ))
 }
 
 /// All of standard input.
@@ -186,6 +241,15 @@ impl Arguments {
     /// The value of an option as a number.
     fn option_number<T: FromStr>(&self, name: &str) -> Result<Option<T>, String> {
         self.option(name).map(number).transpose()
+    }
+
+    /// The parts of the streams of cells: all, unless `--part` names one, from 1 on.
+    fn parts(&self) -> Result<Vec<&'static Part>, String> {
+        let Some(number) = self.option_number::<usize>("--part")? else {
+            return Ok(PARTS.iter().collect());
+        };
+        let part = number.checked_sub(1).and_then(|place| PARTS.get(place));
+        Ok(vec![part.ok_or(format!("parts are 1 to {}", PARTS.len()))?])
     }
 
     /// The letters that are built: all, unless `--built` names some.

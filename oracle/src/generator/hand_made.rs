@@ -153,6 +153,11 @@ impl Generator<'_> {
             1 => self.random.pick(&[30, 62, 63, 64]),
             _ => self.random.pick(&[65, 66, 100, 1 << 32, u64::MAX]),
         };
+        self.hand_shape_of(width)
+    }
+
+    /// A shape of this width set by hand.
+    pub fn hand_shape_of(&mut self, width: u64) -> HandShape {
         let given = match self.random.weighted(&[10, 1, 1]) {
             0 => width.min(66),
             1 => self.random.below(width.min(64) + 1),

@@ -1,7 +1,7 @@
 //! Single values: ids, entries, options, marks, messages, lengths, record bytes.
 
 use super::Generator;
-use crate::column::Column;
+use crate::codes;
 use crate::random::Random;
 use crate::records;
 use crate::refusals;
@@ -36,7 +36,7 @@ impl Generator<'_> {
             .shaper
             .columns()
             .iter()
-            .filter_map(held_id)
+            .filter_map(codes::held)
             .collect();
         if held.is_empty() {
             self.random.pick(&self.ids)
@@ -227,13 +227,5 @@ impl Generator<'_> {
         let entry = self.random.below(u64::from(refusals::RECORD_ENTRIES)) as usize;
         bytes[records::ENTRIES_AT + entry * records::ENTRY_BYTES] =
             self.random.pick(&[2, 3, 4, 255]);
-    }
-}
-
-/// The id that a column holds.
-fn held_id(column: &Column<u32>) -> Option<u32> {
-    match column {
-        Column::Empty | Column::Blocked => None,
-        Column::Reserved(id) | Column::Ancestor(id) | Column::Parent(id) => Some(*id),
     }
 }

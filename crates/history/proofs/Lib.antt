@@ -1,0 +1,6 @@
+pub mod Lines
+pub mod Waits
+pub mod Rows
+pub mod Keeps
+pub mod Refuted
+pub mod Accepted

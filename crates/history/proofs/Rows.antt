@@ -1,0 +1,358 @@
+-- A row: the swap, the reset, and what they leave of the ids that wait, of their columns, and of the lines.
+use Prim.Native.Nat.{ℕ, zero, suc, _+_, _-_, _≤_, _<_, max, min}
+use mathlib.Core.Path.{_≡_, refl, sym, _∙_, ap, subst}
+use mathlib.Core.Logic.{_≢_, _↔_}
+use mathlib.Core.Bool.{Bool, true, false, cond}
+use mathlib.Core.List.{List, [], _∷_, map, _++_}
+use mathlib.Core.Option.{Option, none, some, Option·none-ne-some, Option·some-injective}
+use native.Mathlib.Omega.{arith}
+use native.Mathlib.Decide.{ℕ-discrete}
+use borrow.Author.Tests.{eqb-true, eqb-false, ltb-true, ltb-false, lt-ltb, ne-eqb}
+use lib.Dec.{eqb, ltb}
+use lib.ListN.{length, getD, take, replicate, List·getD-map, List·getD-eq-default, length-map}
+use lib.Seq.{take-at}
+use Rattle.column.specs.declared.Column.{Column}
+use Rattle.column.specs.declared.Column.the-variants.{Empty, Blocked, Reserved, Ancestor, Parent}
+use Rattle.column.specs.declared.Found.{Found}
+use Rattle.column.specs.declared.Found.the-variants.{At, Nothing}
+use Rattle.column.specs.Columns.{columnLimit, rank, idOf, find, vacant, orElse, merge, isReserved, isParent, unblock, keep, trim, isEmpty, reset, at, put}
+use Rattle.column.proofs.Positions.{at-put-same, at-put-other, length-put, past-end}
+use Rattle.render.specs.declared.render.Ancestor.{Ancestor as Entry}
+use Rattle.render.specs.declared.render.NodeLine.{NodeLine}
+use Rattle.render.specs.declared.render.NodeLine.the-variants as node
+use Rattle.render.specs.declared.render.PadLine.{PadLine}
+use Rattle.render.specs.declared.types.Cell.{Cell}
+use Rattle.render.specs.declared.types.DashStyle.{DashStyle}
+use Rattle.render.specs.declared.types.DashStyle.the-variants.{Persistent, Once}
+use Rattle.render.specs.Entries.{entryId}
+use Rattle.render.specs.Lines.{blankCell, cellsOf, nodeToPad, footPad, preNodeLine, postAncestryLine}
+use Rattle.row_shape.specs.Shaper.{View}
+use Rattle.row_shape.specs.Placing.{dense, staggered, unallocated, nodeColumn, head, columnOf, spot, enter, walk, swap, gaveUp, swapped, dashed, Placed, placeAt}
+use Rattle.row_shape.specs.declared.links.Met.{Met}
+use Rattle.row_shape.specs.declared.links.Swap.{Swap}
+use Rattle.row_shape.specs.declared.links.AncestorColumnBounds.{AncestorColumnBounds}
+use Rattle.row_shape.specs.Links.{drawsAt, boundsOf, linked}
+use Rattle.row_shape.specs.Row.{besideNode, padOf, nodeCell, cellOf, cellsFrom, shapeAt}
+use Rattle.row_shape.proofs.Holding.{Where, away, there, findIs, at-vacant, at-staggered, Spot, spotIs, nodeSpot, spot-only, empty-holds, enter-stays, walk-stays, flip, flip-left, flip-else, flip-flip, at-swap, finish, dash, at-finish, ids-kept, finish-stays}
+use Rattle.row_shape.proofs.PlacingLaws.{walk-more}
+use Rattle.row_shape.proofs.RowLaws.{length-cells}
+use Rattle.history.specs.Account.{Call, Reserve, Row, Wait, Idle, AsReserved, AsNamed, Waiting, named, waitsAfter}
+use Rattle.history.specs.Demand3.{Stroke, Blank, Dashed, Solid, Holds, waitOf, Wait-in, Tidy, OneEntry, cell, isStroke, solid, overNode}
+use Rattle.history.proofs.Lines.{padStroke}
+use Rattle.history.proofs.Waits.{places, spot-alone, walk-keeps, bare-keeps, ending}
+
+-- ---- the swap
+swapped-keeps : (f : Found) (c : ℕ) (cs : List Column) (w : Waiting) → Wait-in cs w → Wait-in (swapped f c cs) w
+swapped-keeps Nothing c cs w W = W
+swapped-keeps (At p) c cs w W =
+    places cs (swap c p cs) w (flip c p) (flip-flip c p) (λ i. ap idOf (at-swap c p cs i)) (λ i. ap waitOf (at-swap c p cs i)) W
+
+-- where an id is after the entries and the swap
+pub settle-moves : (c : ℕ) (es : List Entry) (cs : List Column) (w : Waiting) (i x : ℕ) → Wait-in cs w → at cs c ≡ Empty → Holds cs i x
+    → (OneEntry x es → c < i → Holds (swapped (gaveUp c es cs) c (walk c es cs)) c x)
+    × ((OneEntry x es → c < i → ⊥) → Holds (swapped (gaveUp c es cs) c (walk c es cs)) i x)
+settle-moves c [] cs w i x W b h = (λ o l. absurd o, λ n. h)
+settle-moves c (e ∷ f ∷ es) cs w i x W b h = (λ o l. absurd o, λ n. walk-stays c (e ∷ f ∷ es) cs i x h)
+settle-moves c (e ∷ []) cs w i x W b h = (pulled (spot c e cs) (spotIs c e cs), λ n. stays (spot c e cs) (spotIs c e cs) n (ltb c (spot c e cs)) refl)
+  where
+    inside : Holds (enter c e cs) i x
+    inside = enter-stays c e cs i x h
+
+    pulled : (p : ℕ) → Spot (entryId e) cs p → entryId e ≡ some x → c < i → Holds (swapped (cond (ltb c p) (At p) Nothing) c (enter c e cs)) c x
+    pulled p S o l =
+        let q : i ≡ p = spot-alone (entryId e) cs w p W S i x o h in
+        rw (lt-ltb c p (omega arith))
+        (ap idOf (at-swap c p (enter c e cs) c ∙ ap (at (enter c e cs)) (flip-left c p ∙ sym q)) ∙ inside)
+
+    stays : (p : ℕ) → Spot (entryId e) cs p → (entryId e ≡ some x → c < i → ⊥) → (t : Bool) → ltb c p ≡ t
+        → Holds (swapped (cond t (At p) Nothing) c (enter c e cs)) i x
+    stays p S n false t = inside
+    stays p S n true t =
+        ap idOf (at-swap c p (enter c e cs) i ∙ ap (at (enter c e cs)) (flip-else c p i not-c not-p)) ∙ inside
+      where
+        not-c : i ≢ c
+        not-c z = empty-holds cs c x b (subst (λ (k : ℕ). Holds cs k x) z h)
+
+        not-p : i ≢ p
+        not-p z = n (spot-only (entryId e) cs p S x (subst (λ (k : ℕ). Holds cs k x) z h)) (omega (arith, ltb-true c p t))
+
+-- ---- the end of a row
+kinds-kept : (d : DashStyle) (c : Column) → waitOf (unblock (dash d c)) ≡ waitOf c
+kinds-kept Persistent Empty = refl
+kinds-kept Persistent Blocked = refl
+kinds-kept Persistent (Reserved n) = refl
+kinds-kept Persistent (Ancestor n) = refl
+kinds-kept Persistent (Parent n) = refl
+kinds-kept Once Empty = refl
+kinds-kept Once Blocked = refl
+kinds-kept Once (Reserved n) = refl
+kinds-kept Once (Ancestor n) = refl
+kinds-kept Once (Parent n) = refl
+
+finish-keeps : (d : DashStyle) (cs : List Column) (w : Waiting) → Wait-in cs w → Wait-in (finish d cs) w
+finish-keeps d cs w W =
+    places cs (finish d cs) w (λ i. i) (λ i. refl)
+    (λ i. ap idOf (at-finish d cs i) ∙ ids-kept d (at cs i))
+    (λ i. ap waitOf (at-finish d cs i) ∙ kinds-kept d (at cs i)) W
+
+never-blocked : (c : Column) → unblock c ≢ Blocked
+never-blocked Empty z = omega (arith, ap rank z)
+never-blocked Blocked z = omega (arith, ap rank z)
+never-blocked (Reserved n) z = omega (arith, ap rank z)
+never-blocked (Ancestor n) z = omega (arith, ap rank z)
+never-blocked (Parent n) z = omega (arith, ap rank z)
+
+-- trimming leaves no Empty column last
+abbrev Full : List Column → Type 0
+Full cs = (n : ℕ) → suc n ≡ length cs → at cs n ≢ Empty
+
+full-one : (c : Column) → c ≢ Empty → Full (c ∷ [])
+full-one c h zero e = h
+full-one c h (suc n) e = absurd (omega arith)
+
+full-keep : (c : Column) (cs : List Column) → Full cs → Full (keep c cs)
+full-keep Empty [] h = h
+full-keep Blocked [] h = full-one Blocked (λ z. omega (arith, ap rank z))
+full-keep (Reserved m) [] h = full-one (Reserved m) (λ z. omega (arith, ap rank z))
+full-keep (Ancestor m) [] h = full-one (Ancestor m) (λ z. omega (arith, ap rank z))
+full-keep (Parent m) [] h = full-one (Parent m) (λ z. omega (arith, ap rank z))
+full-keep c (d ∷ ds) h = behind
+  where
+    behind : Full (c ∷ d ∷ ds)
+    behind zero e = absurd (omega arith)
+    behind (suc n) e = h n (omega arith)
+
+full-trim : (cs : List Column) → Full (trim cs)
+full-trim [] = λ n e. absurd (omega arith)
+full-trim (c ∷ cs) = full-keep c (trim cs) (full-trim cs)
+
+pub finish-tidy : (d : DashStyle) (cs : List Column) → Tidy (finish d cs)
+finish-tidy d cs =
+    record {
+      unblocked = λ i z. never-blocked (dash d (at cs i)) (sym (at-finish d cs i) ∙ z);
+      full = full-trim (map unblock (dashed d cs));
+    }
+
+pub reserve-tidy : (cs : List Column) (k n : ℕ) → Tidy cs → Tidy (put cs k (Reserved n))
+reserve-tidy cs k n T = record { unblocked = λ i. open-at i (ℕ-discrete i k); full = λ m e. full-at m e (ℕ-discrete m k) }
+  where
+    written : (i : ℕ) → i ≡ k → at (put cs k (Reserved n)) i ≡ Reserved n
+    written i e = rw (e, at-put-same)
+
+    open-at : (i : ℕ) → Dec (i ≡ k) → at (put cs k (Reserved n)) i ≢ Blocked
+    open-at i (yes e) z = omega (arith, ap rank (sym (written i e) ∙ z))
+    open-at i (no h) z = T .unblocked i (rw at-put-other at z)
+
+    full-at : (m : ℕ) → suc m ≡ length (put cs k (Reserved n)) → Dec (m ≡ k) → at (put cs k (Reserved n)) m ≢ Empty
+    full-at m e (yes q) z = omega (arith, ap rank (sym (written m q) ∙ z))
+    full-at m e (no h) z = T .full m (omega (arith, length-put cs k (Reserved n))) (rw at-put-other at z)
+
+-- ---- the lines: a line shows the columns
+abbrev pub pad : Column → Stroke
+pad c = padStroke (padOf c)
+
+abbrev pub Shows : List Stroke → List Column → Type 0
+Shows f cs = (i : ℕ) → cell f i ≡ pad (at cs i)
+
+-- cell i of a line that is made from a function of the place
+cells-in : (f : ℕ → Stroke) (k w i : ℕ) → i < w → cell (cellsFrom f k w) i ≡ f (k + i)
+cells-in f k zero i h = absurd (omega arith)
+cells-in f k (suc w) zero h = let z : k ≡ k + 0 = omega arith in ap f z
+cells-in f k (suc w) (suc i) h = let z : suc k + i ≡ k + suc i = omega arith in cells-in f (suc k) w i (omega arith) ∙ ap f z
+
+map-map : {A B C : Type 0} (g : B → C) (f : A → B) (l : List A) → map g (map f l) ≡ map (λ x. g (f x)) l
+map-map g f [] = refl
+map-map g f (a ∷ l) = ap (λ r. g (f a) ∷ r) (map-map g f l)
+
+map-cells : {A B : Type 0} (h : A → B) (f : ℕ → A) (k w : ℕ) → map h (cellsFrom f k w) ≡ cellsFrom (λ i. h (f i)) k w
+map-cells h f k zero = refl
+map-cells h f k (suc w) = ap (λ r. h (f k) ∷ r) (map-cells h f (suc k) w)
+
+-- a line that is blank past its width shows a function of the place
+line-at : (f : ℕ → Stroke) (w : ℕ) → ((i : ℕ) → w ≤ i → f i ≡ Blank) → (i : ℕ) → cell (cellsFrom f 0 w) i ≡ f i
+line-at f w h i = go (ltb i w) refl
+  where
+    go : (t : Bool) → ltb i w ≡ t → cell (cellsFrom f 0 w) i ≡ f i
+    go true e = let z : 0 + i ≡ i = omega arith in cells-in f 0 w i (ltb-true _ _ e) ∙ ap f z
+    go false e = List·getD-eq-default (cellsFrom f 0 w) Blank (rw (length-cells f Blank 0 w) (ltb-false _ _ e)) ∙ sym (h i (ltb-false _ _ e))
+
+foot-pad : (d : DashStyle) (c : Column) → padStroke (footPad d (padOf c)) ≡ pad (unblock (dash d c))
+foot-pad Persistent Empty = refl
+foot-pad Persistent Blocked = refl
+foot-pad Persistent (Reserved n) = refl
+foot-pad Persistent (Ancestor n) = refl
+foot-pad Persistent (Parent n) = refl
+foot-pad Once Empty = refl
+foot-pad Once Blocked = refl
+foot-pad Once (Reserved n) = refl
+foot-pad Once (Ancestor n) = refl
+foot-pad Once (Parent n) = refl
+
+-- strokes are the ids that wait as named
+pad-named : (c : Column) → isStroke (pad c) → (x : ℕ) × (idOf c ≡ some x) × (waitOf c ≡ AsNamed)
+pad-named Empty h = absurd h
+pad-named Blocked h = absurd h
+pad-named (Reserved n) h = absurd h
+pad-named (Ancestor n) h = (n, refl, refl)
+pad-named (Parent n) h = (n, refl, refl)
+
+named-pad : (c : Column) → waitOf c ≡ AsNamed → isStroke (pad c)
+named-pad Empty h = let q : _≡_ {A = ℕ} 0 1 = cc in absurd (omega arith)
+named-pad Blocked h = let q : _≡_ {A = ℕ} 0 1 = cc in absurd (omega arith)
+named-pad (Reserved n) h = let q : _≡_ {A = ℕ} 0 1 = cc in absurd (omega arith)
+named-pad (Ancestor n) h = tt
+named-pad (Parent n) h = tt
+
+pub strokes-of : (f : List Stroke) (cs : List Column) (w : Waiting) → Shows f cs → Wait-in cs w → (i : ℕ)
+    → isStroke (cell f i) ↔ ((x : ℕ) × Holds cs i x × (w x ≡ AsNamed))
+strokes-of f cs w S W i = (
+  λ h. let p = pad-named (at cs i) (subst isStroke (S i) h) in (p .0, p .1, W .waits i (p .0) (p .1) ∙ p .2),
+  λ p. subst isStroke (sym (S i)) (named-pad (at cs i) (sym (W .waits i (p .0) (p .1)) ∙ p .2)),
+)
+
+-- ---- a whole row, placed: its lines and its columns
+gave-in : (c : ℕ) (es : List Entry) (cs : List Column) (q : ℕ) → gaveUp c es cs ≡ At q → q < length (walk c es cs)
+gave-in c [] cs q e = let z : _≡_ {A = ℕ} 0 1 = cc in absurd (omega arith)
+gave-in c (e ∷ f ∷ es) cs q h = let z : _≡_ {A = ℕ} 0 1 = cc in absurd (omega arith)
+gave-in c (e ∷ []) cs q h = go (ltb c (spot c e cs)) h
+  where
+    go : (t : Bool) → cond t (At (spot c e cs)) Nothing ≡ At q → q < length (enter c e cs)
+    go true k =
+        let z : spot c e cs ≡ q = cc in
+        omega (arith, length-put cs (spot c e cs) (merge (at cs (spot c e cs)) (columnOf e)))
+    go false k = let z : _≡_ {A = ℕ} 0 1 = cc in absurd (omega arith)
+
+module _ (v : View) (n : ℕ) (es : List Entry) where
+  abbrev c : ℕ
+  c = nodeColumn v n
+
+  abbrev bare : List Column
+  bare = put (v .columns) c Empty
+
+  abbrev ws : List Column
+  ws = walk c es bare
+
+  abbrev settled : List Column
+  settled = swapped (gaveUp c es bare) c ws
+
+  abbrev end : List Column
+  end = finish (v .style .«dash_style») settled
+
+  abbrev width : ℕ
+  width = length ws
+
+  long : c < width
+  long = omega (arith, walk-more c es bare, length-put (v .columns) c Empty)
+
+  swap-past : (f : Found) → ((q : ℕ) → f ≡ At q → q < width) → (i : ℕ) → width ≤ i → at (swapped f c ws) i ≡ Empty
+  swap-past Nothing h i k = past-end ws i k
+  swap-past (At q) h i k =
+      let l : q < width = h q refl in
+      at-swap c q ws i ∙ ap (at ws) (flip-else c q i (λ z. omega (arith, long)) (λ z. omega arith)) ∙ past-end ws i k
+
+  -- the shape's cells
+  abbrev cellAt : ℕ → Cell
+  cellAt i =
+      let draws : ℕ → Met = drawsAt (gaveUp c es bare) c es bare in
+      let r : AncestorColumnBounds = boundsOf (cellsFrom draws 0 width) c in
+      let s : Swap = record { «given_up» = gaveUp c es bare; «was_direct» = isParent (at bare (orElse (gaveUp c es bare) c)) } in
+      cellOf (linked r s) r s i (draws i) (at bare i) (at settled i)
+
+  abbrev cells : List Cell
+  cells = take width (cellsFrom cellAt 0 width ++ replicate (columnLimit - width) blankCell)
+
+  -- a line of the shape, from what each of its cells shows
+  line-is : (h : Cell → Stroke) → map h cells ≡ cellsFrom (λ i. h (cellAt i)) 0 width
+  line-is h =
+      ap (map h) (take-at (cellsFrom cellAt 0 width) (replicate (columnLimit - width) blankCell) width (length-cells cellAt blankCell 0 width))
+      ∙ map-cells h cellAt 0 width
+
+  -- the foot line shows the columns after the row
+  pub foot-shows : Shows (map padStroke (postAncestryLine (shapeAt v n es (placeAt c es bare)))) end
+  foot-shows i =
+      ap (λ (l : List Stroke). cell l i) (map-map padStroke (λ (x : Cell). footPad (v .style .«dash_style») (x .ancestry)) cells ∙ line-is (λ (x : Cell). padStroke (footPad (v .style .«dash_style») (x .ancestry))))
+      ∙ line-at (λ i. padStroke (footPad (v .style .«dash_style») (padOf (at settled i)))) width blank i
+      ∙ foot-pad (v .style .«dash_style») (at settled i)
+      ∙ sym (ap pad (at-finish (v .style .«dash_style») settled i))
+    where
+      blank : (i : ℕ) → width ≤ i → padStroke (footPad (v .style .«dash_style») (padOf (at settled i))) ≡ Blank
+      blank i h = ap (λ (x : Column). padStroke (footPad (v .style .«dash_style») (padOf x))) (swap-past (gaveUp c es bare) (gave-in c es bare) i h)
+
+  -- over the node the head line is solid or blank, as the node's column was
+  over-node : (b : Bool) (f : Found) → Where n (v .columns) f → padStroke (nodeToPad (head f (v .columns)) node.Node) ≡ solid (pad (at (v .columns) (orElse f (cond b (staggered (v .previous) (v .columns)) (vacant (v .columns))))))
+  over-node true Nothing (away h) = rw (at-staggered (v .previous) (v .columns))
+  over-node false Nothing (away h) = rw (at-vacant (v .columns))
+  over-node b (At j) (there k h) = held (at (v .columns) j) h
+    where
+      held : (x : Column) → idOf x ≡ some n → padStroke (nodeToPad (isReserved x) node.Node) ≡ solid (pad x)
+      held Empty q = absurd (Option·none-ne-some n q)
+      held Blocked q = absurd (Option·none-ne-some n q)
+      held (Reserved m) q = refl
+      held (Ancestor m) q = refl
+      held (Parent m) q = refl
+
+  beside : (b : Bool) (x : Column) → padStroke (nodeToPad b (besideNode x)) ≡ pad x
+  beside b Empty = refl
+  beside b Blocked = refl
+  beside b (Reserved m) = refl
+  beside b (Ancestor m) = refl
+  beside b (Parent m) = refl
+
+  abbrev hd : Bool
+  hd = head (find n (v .columns)) (v .columns)
+
+  -- the head line is the foot line before, if that showed the columns before
+  pub head-meets : (f : List Stroke) → Shows f (v .columns) → (i : ℕ)
+      → cell (map padStroke (preNodeLine (shapeAt v n es (placeAt c es bare)))) i ≡ overNode c i (cell f i)
+  head-meets f S i =
+      ap (λ (l : List Stroke). cell l i) (map-map padStroke (λ (x : Cell). nodeToPad hd (x .node)) cells ∙ line-is (λ (x : Cell). padStroke (nodeToPad hd (x .node))))
+      ∙ line-at (λ i. padStroke (nodeToPad hd (nodeCell i c (at bare i)))) width blank i
+      ∙ go (eqb i c) refl
+    where
+      blank : (i : ℕ) → width ≤ i → padStroke (nodeToPad hd (nodeCell i c (at bare i))) ≡ Blank
+      blank i h =
+          let e : eqb i c ≡ false = ne-eqb i c (λ z. omega (arith, long)) in
+          rw (e, past-end bare i (omega (arith, walk-more c es bare)))
+
+      go : (t : Bool) → eqb i c ≡ t → padStroke (nodeToPad hd (cond t node.Node (besideNode (at bare i)))) ≡ cond t (solid (cell f i)) (cell f i)
+      go true e =
+          over-node (dense v) (find n (v .columns)) (findIs n (v .columns))
+          ∙ ap solid (ap (λ (k : ℕ). pad (at (v .columns) k)) (sym (eqb-true i c e)) ∙ sym (S i))
+      go false e = beside hd (at bare i) ∙ ap pad (at-put-other (v .columns) c Empty i (eqb-false i c e)) ∙ sym (S i)
+
+  module _ (w : Waiting) (W : Wait-in (v .columns) w) where
+    bare-waits : Wait-in bare (ending n w)
+    bare-waits = bare-keeps n (v .columns) w c (nodeSpot v n) W
+
+    pub row-keeps : Wait-in end (waitsAfter (Row n es) w)
+    row-keeps =
+        finish-keeps (v .style .«dash_style») settled (waitsAfter (Row n es) w)
+        (swapped-keeps (gaveUp c es bare) c ws (waitsAfter (Row n es) w)
+        (walk-keeps c es bare (ending n w) (waitsAfter (Row n es) w) bare-waits (λ x. refl)))
+
+    bare-stays : (i x : ℕ) → x ≢ n → Holds (v .columns) i x → Holds bare i x
+    bare-stays i x h q =
+        ap idOf (at-put-other (v .columns) c Empty i
+        (λ z. h (sym (Option·some-injective n x (spot-only (some n) (v .columns) c (nodeSpot v n) x (subst (λ (k : ℕ). Holds (v .columns) k x) z q))))))
+        ∙ q
+
+    pub row-moves : (x i j : ℕ) → Holds (v .columns) i x → Holds end j x → x ≢ n
+        → (OneEntry x es → c < i → j ≡ c) × ((OneEntry x es → c < i → ⊥) → j ≡ i)
+    row-moves x i j a q h =
+        let m = settle-moves c es bare (ending n w) i x bare-waits (at-put-same (v .columns) c Empty) (bare-stays i x h a) in (
+          λ o l. row-keeps .one j c x q (finish-stays (v .style .«dash_style») settled c x (m .0 o l)),
+          λ no-pull. row-keeps .one j i x q (finish-stays (v .style .«dash_style») settled i x (m .1 no-pull)),
+        )
+
+-- ---- a reservation moves no id and changes no line
+pub reserve-stays : (n : ℕ) (cs : List Column) (i x : ℕ) → Holds cs i x → Holds (put cs (vacant cs) (Reserved n)) i x
+reserve-stays n cs i x h =
+    let g : i ≢ vacant cs = λ z. empty-holds cs (vacant cs) x (at-vacant cs) (rw z at h) in
+    simp at-put-other h
+
+pub reserve-shows : (n : ℕ) (cs : List Column) (f : List Stroke) → Shows f cs → Shows f (put cs (vacant cs) (Reserved n))
+reserve-shows n cs f S i = S i ∙ go (ℕ-discrete i (vacant cs))
+  where
+    go : Dec (i ≡ vacant cs) → pad (at cs i) ≡ pad (at (put cs (vacant cs) (Reserved n)) i)
+    go (yes e) = rw e (simp (at-put-same, at-vacant))
+    go (no h) = simp at-put-other

@@ -1,0 +1,224 @@
+-- The ids in the columns are those that wait: one law for a column that is written, and one for columns that change places.
+use Prim.Native.Nat.{ℕ, zero, suc}
+use mathlib.Core.Path.{_≡_, refl, sym, _∙_, ap}
+use mathlib.Core.Logic.{_≢_}
+use mathlib.Core.Bool.{Bool, true, false, cond, _||_}
+use mathlib.Core.List.{List, [], _∷_}
+use mathlib.Core.Option.{Option, none, some, Option·none-ne-some, Option·some-injective}
+use native.Mathlib.Omega.{arith}
+use native.Mathlib.Decide.{ℕ-discrete}
+use borrow.Author.Tests.{eqb-true, eq-eqb, ne-eqb}
+use lib.Dec.{eqb}
+use Rattle.column.specs.declared.Column.{Column}
+use Rattle.column.specs.declared.Column.the-variants.{Empty, Blocked, Reserved, Ancestor, Parent}
+use Rattle.column.specs.declared.Found.{Found}
+use Rattle.column.specs.declared.Found.the-variants.{At, Nothing}
+use Rattle.column.specs.Columns.{idOf, isId, find, vacant, merge, at, put}
+use Rattle.column.proofs.Positions.{at-put-same, at-put-other}
+use Rattle.render.specs.declared.render.Ancestor.{Ancestor as Entry}
+use Rattle.render.specs.declared.render.Ancestor.the-variants.{Ancestor as Indirect, Parent as Direct, Anonymous}
+use Rattle.render.specs.Entries.{entryId}
+use Rattle.row_shape.specs.Shaper.{reserved, reservedIn}
+use Rattle.row_shape.specs.Placing.{columnOf, spot, enter, walk}
+use Rattle.row_shape.proofs.Holding.{Where, away, there, findIs, at-vacant, Spot, taken, free, spotIs, spot-only, empty-holds, merge-empty, spot-id}
+use Rattle.history.specs.Account.{Call, Reserve, Row, Wait, Idle, AsReserved, AsNamed, Waiting, names, named, unlessWaiting, waitsAfter}
+use Rattle.history.specs.Demand3.{Holds, waitOf, Wait-in}
+
+pub decId : (o : Option ℕ) (x : ℕ) → Dec (o ≡ some x)
+decId none x = no (Option·none-ne-some x)
+decId (some m) x = go (ℕ-discrete m x)
+  where
+    go : Dec (m ≡ x) → Dec (_≡_ {A = Option ℕ} (some m) (some x))
+    go (yes e) = yes (ap some e)
+    go (no h) = no (λ z. h (Option·some-injective m x z))
+
+-- column k is written: the ids of all others wait as before
+module _ (cs : List Column) (w w′ : Waiting) (k : ℕ) (v : Column) (W : Wait-in cs w)
+    (alone : (i x : ℕ) → idOf v ≡ some x → Holds cs i x → i ≡ k)
+    (new : (x : ℕ) → idOf v ≡ some x → w′ x ≡ waitOf v)
+    (gone : (x : ℕ) → idOf v ≢ some x → Holds cs k x → w′ x ≡ Idle)
+    (rest : (x : ℕ) → idOf v ≢ some x → (Holds cs k x → ⊥) → w′ x ≡ w x) where
+  -- what stands in a column afterwards stood there before, or is what was written
+  back : (i x : ℕ) → i ≢ k → Holds (put cs k v) i x → Holds cs i x
+  back i x h q = rw at-put-other at q
+
+  back-here : (i x : ℕ) → i ≡ k → Holds (put cs k v) i x → idOf v ≡ some x
+  back-here i x e q = cc (at-put-same cs k v)
+
+  put-held : (x : ℕ) → w′ x ≢ Idle → (i : ℕ) × Holds (put cs k v) i x
+  put-held x h = go (decId (idOf v) x) (decId (idOf (at cs k)) x)
+    where
+      go : Dec (idOf v ≡ some x) → Dec (Holds cs k x) → (i : ℕ) × Holds (put cs k v) i x
+      go (yes e) d = (k, rw at-put-same e)
+      go (no n) (yes q) = absurd (h (gone x n q))
+      go (no n) (no m) =
+          let f : (i : ℕ) × Holds cs i x = W .held x (λ z. h (rest x n m ∙ z)) in
+          let g : f .0 ≢ k = λ e. m (rw e at (f .1)) in
+          (f .0, simp at-put-other (f .1))
+
+  put-waits : (i x : ℕ) → Holds (put cs k v) i x → w′ x ≡ waitOf (at (put cs k v) i)
+  put-waits i x q = go (ℕ-discrete i k)
+    where
+      go : Dec (i ≡ k) → w′ x ≡ waitOf (at (put cs k v) i)
+      go (yes e) = rw (e, at-put-same) (new x (back-here i x e q))
+      go (no n) =
+          let r : Holds cs i x = back i x n q in
+          rw at-put-other (rest x (λ z. n (alone i x z r)) (λ z. n (W .one i k x r z)) ∙ W .waits i x r)
+
+  put-one : (i j x : ℕ) → Holds (put cs k v) i x → Holds (put cs k v) j x → i ≡ j
+  put-one i j x p q = go (ℕ-discrete i k) (ℕ-discrete j k)
+    where
+      go : Dec (i ≡ k) → Dec (j ≡ k) → i ≡ j
+      go (yes d) (yes e) = cc
+      go (yes d) (no n) = absurd (n (alone j x (back-here i x d p) (back j x n q)))
+      go (no m) (yes e) = absurd (m (alone i x (back-here j x e q) (back i x m p)))
+      go (no m) (no n) = W .one i j x (back i x m p) (back j x n q)
+
+  pub put-keeps : Wait-in (put cs k v) w′
+  put-keeps = record { held = put-held; waits = put-waits; one = put-one }
+
+-- columns that change places, and columns whose ids wait as before
+pub places : (cs ds : List Column) (w : Waiting) (σ : ℕ → ℕ) → ((i : ℕ) → σ (σ i) ≡ i)
+    → ((i : ℕ) → idOf (at ds i) ≡ idOf (at cs (σ i))) → ((i : ℕ) → waitOf (at ds i) ≡ waitOf (at cs (σ i)))
+    → Wait-in cs w → Wait-in ds w
+places cs ds w σ back ids kinds W =
+    record {
+      held = λ x h. (σ (W .held x h .0), ids (σ (W .held x h .0)) ∙ (rw back (W .held x h .1)));
+      waits = λ i x q. W .waits (σ i) x (sym (ids i) ∙ q) ∙ sym (kinds i);
+      one = λ i j x p q. sym (back i) ∙ (ap σ (W .one (σ i) (σ j) x (sym (ids i) ∙ p) (sym (ids j) ∙ q)) ∙ back j);
+    }
+
+pub waits-ext : (cs : List Column) (w w′ : Waiting) → ((x : ℕ) → w′ x ≡ w x) → Wait-in cs w → Wait-in cs w′
+waits-ext cs w w′ h W =
+    record { held = λ x n. W .held x (λ z. n (h x ∙ z)); waits = λ i x q. h x ∙ W .waits i x q; one = W .one }
+
+-- an id that no column holds does not wait
+named≢idle : AsNamed ≢ Idle
+named≢idle e = let z : _≡_ {A = ℕ} 0 1 = cc in omega arith
+
+reserved≢idle : AsReserved ≢ Idle
+reserved≢idle e = let z : _≡_ {A = ℕ} 0 1 = cc in omega arith
+
+pub idle : (cs : List Column) (w : Waiting) → Wait-in cs w → (x : ℕ) → ((i : ℕ) → Holds cs i x → ⊥) → w x ≡ Idle
+idle cs w W x h = go (w x) refl
+  where
+    some-where : w x ≢ Idle → ⊥
+    some-where n = h (W .held x n .0) (W .held x n .1)
+
+    go : (a : Wait) → w x ≡ a → w x ≡ Idle
+    go Idle e = e
+    go AsReserved e = absurd (some-where (λ z. reserved≢idle (sym e ∙ z)))
+    go AsNamed e = absurd (some-where (λ z. named≢idle (sym e ∙ z)))
+
+-- who is in the spot is the id, and nobody else has it
+pub spot-alone : (o : Option ℕ) (cs : List Column) (w : Waiting) (k : ℕ) → Wait-in cs w → Spot o cs k
+    → (i x : ℕ) → o ≡ some x → Holds cs i x → i ≡ k
+spot-alone o cs w k W (taken n e q) i x z h = W .one i k x h (q ∙ (sym e ∙ z))
+spot-alone o cs w k W (free e f) i x z h = absurd (f x i z h)
+
+-- merging an entry into its spot leaves its id named there
+merge-named : (c : Column) (e : Entry) (n : ℕ) → idOf c ≡ some n → entryId e ≡ some n → waitOf (merge c (columnOf e)) ≡ AsNamed
+merge-named Empty e n p q = absurd (Option·none-ne-some n p)
+merge-named Blocked e n p q = absurd (Option·none-ne-some n p)
+merge-named (Reserved m) Anonymous n p q = absurd (Option·none-ne-some n q)
+merge-named (Reserved m) (Indirect k) n p q = refl
+merge-named (Reserved m) (Direct k) n p q = refl
+merge-named (Ancestor m) Anonymous n p q = absurd (Option·none-ne-some n q)
+merge-named (Ancestor m) (Indirect k) n p q = refl
+merge-named (Ancestor m) (Direct k) n p q = refl
+merge-named (Parent m) Anonymous n p q = absurd (Option·none-ne-some n q)
+merge-named (Parent m) (Indirect k) n p q = refl
+merge-named (Parent m) (Direct k) n p q = refl
+
+column-named : (e : Entry) (n : ℕ) → entryId e ≡ some n → waitOf (columnOf e) ≡ AsNamed
+column-named Anonymous n q = absurd (Option·none-ne-some n q)
+column-named (Indirect m) n q = refl
+column-named (Direct m) n q = refl
+
+spot-named : (e : Entry) (cs : List Column) (k n : ℕ) → Spot (entryId e) cs k → entryId e ≡ some n → waitOf (merge (at cs k) (columnOf e)) ≡ AsNamed
+spot-named e cs k n (taken m z q) h = merge-named (at cs k) e m q z
+spot-named e cs k n (free z f) h = ap waitOf (merge-empty (at cs k) e z) ∙ column-named e n h
+
+names-is : (x : ℕ) (e : Entry) → entryId e ≡ some x → names x e ≡ true
+names-is x (Indirect n) h = eq-eqb x n (sym (Option·some-injective n x h))
+names-is x (Direct n) h = eq-eqb x n (sym (Option·some-injective n x h))
+names-is x Anonymous h = absurd (Option·none-ne-some x h)
+
+names-not : (x : ℕ) (e : Entry) → entryId e ≢ some x → names x e ≡ false
+names-not x (Indirect n) h = ne-eqb x n (λ z. h (ap some (sym z)))
+names-not x (Direct n) h = ne-eqb x n (λ z. h (ap some (sym z)))
+names-not x Anonymous h = refl
+
+-- an entry: its id waits as named
+abbrev pub naming : Entry → Waiting → Waiting
+naming e w x = cond (names x e) AsNamed (w x)
+
+pub enter-keeps : (c : ℕ) (e : Entry) (cs : List Column) (w : Waiting) → Wait-in cs w → Wait-in (enter c e cs) (naming e w)
+enter-keeps c e cs w W = go (spot c e cs) (spotIs c e cs)
+  where
+    go : (k : ℕ) → Spot (entryId e) cs k → Wait-in (put cs k (merge (at cs k) (columnOf e))) (naming e w)
+    go k S =
+        put-keeps cs w (naming e w) k (merge (at cs k) (columnOf e)) W
+        (λ i x z h. spot-alone (entryId e) cs w k W S i x (sym (spot-id e cs k S) ∙ z) h)
+        (λ x z. rw (names-is x e (sym (spot-id e cs k S) ∙ z)) (sym (spot-named e cs k x S (sym (spot-id e cs k S) ∙ z))))
+        (λ x n q. absurd (n (spot-id e cs k S ∙ spot-only (entryId e) cs k S x q)))
+        (λ x n m. rw (names-not x e (λ z. n (spot-id e cs k S ∙ z))))
+
+cond-or : (a b : Bool) (x y : Wait) → cond (a || b) x y ≡ cond b x (cond a x y)
+cond-or true true x y = refl
+cond-or true false x y = refl
+cond-or false b x y = refl
+
+pub walk-keeps : (c : ℕ) (es : List Entry) (cs : List Column) (w w′ : Waiting) → Wait-in cs w
+    → ((x : ℕ) → w′ x ≡ cond (named x es) AsNamed (w x)) → Wait-in (walk c es cs) w′
+walk-keeps c [] cs w w′ W h = waits-ext cs w w′ h W
+walk-keeps c (e ∷ es) cs w w′ W h =
+    walk-keeps c es (enter c e cs) (naming e w) w′ (enter-keeps c e cs w W)
+    (λ x. h x ∙ cond-or (names x e) (named x es) AsNamed (w x))
+
+-- the node: its id waits no more
+abbrev pub ending : ℕ → Waiting → Waiting
+ending n w x = cond (eqb x n) Idle (w x)
+
+pub bare-keeps : (n : ℕ) (cs : List Column) (w : Waiting) (c : ℕ) → Spot (some n) cs c → Wait-in cs w → Wait-in (put cs c Empty) (ending n w)
+bare-keeps n cs w c S W =
+    put-keeps cs w (ending n w) c Empty W
+    (λ i x z h. absurd (Option·none-ne-some x z))
+    (λ x z. absurd (Option·none-ne-some x z))
+    (λ x z q. rw (eq-eqb x n (sym (Option·some-injective n x (spot-only (some n) cs c S x q)))))
+    (λ x z m. rest x m S (eqb x n) refl)
+  where
+    rest : (x : ℕ) → (Holds cs c x → ⊥) → Spot (some n) cs c → (t : Bool) → eqb x n ≡ t → cond t Idle (w x) ≡ w x
+    rest x m S false e = refl
+    rest x m (taken k z q) true e = absurd (m (q ∙ (sym z ∙ ap some (sym (eqb-true x n e)))))
+    rest x m (free z f) true e = sym (idle cs w W x (λ i h. f x i (ap some (sym (eqb-true x n e))) h))
+
+-- a reservation
+pub reserve-keeps : (n : ℕ) (cs : List Column) (w : Waiting) → Wait-in cs w → Wait-in (reserved n cs) (waitsAfter (Reserve n) w)
+reserve-keeps n cs w W = go (find n cs) (findIs n cs)
+  where
+    waiting : (a : Wait) → a ≢ Idle → unlessWaiting a ≡ a
+    waiting Idle h = absurd (h refl)
+    waiting AsReserved h = refl
+    waiting AsNamed h = refl
+
+    busy : (c : Column) → idOf c ≡ some n → waitOf c ≢ Idle
+    busy Empty q = absurd (Option·none-ne-some n q)
+    busy Blocked q = absurd (Option·none-ne-some n q)
+    busy (Reserved m) q = reserved≢idle
+    busy (Ancestor m) q = named≢idle
+    busy (Parent m) q = named≢idle
+
+    as-before : (i : ℕ) → Holds cs i n → (x : ℕ) (t : Bool) → eqb x n ≡ t → cond t (unlessWaiting (w x)) (w x) ≡ w x
+    as-before i q x false e = refl
+    as-before i q x true e =
+        waiting (w x) (λ z. busy (at cs i) q (sym (W .waits i n q) ∙ (ap w (sym (eqb-true x n e)) ∙ z)))
+
+    go : (o : Found) → Where n cs o → Wait-in (reservedIn o n cs) (waitsAfter (Reserve n) w)
+    go o (there i q) = waits-ext cs w (waitsAfter (Reserve n) w) (λ x. as-before i q x (eqb x n) refl) W
+    go o (away h) =
+        put-keeps cs w (waitsAfter (Reserve n) w) (vacant cs) (Reserved n) W
+        (λ i x z q. absurd (h i (q ∙ sym z)))
+        (λ x z. rw (eq-eqb x n (sym (Option·some-injective n x z)), idle cs w W x (λ i q. h i (q ∙ sym z))))
+        (λ x z q. absurd (empty-holds cs (vacant cs) x (at-vacant cs) q))
+        (λ x z m. rw (ne-eqb x n (λ e. z (ap some (sym e)))))

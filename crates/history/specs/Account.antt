@@ -1,0 +1,52 @@
+-- Document 01's account of the ids that wait ("Which ids wait"). It is fed the calls' arguments and whether each was refused, and nothing out of the columns.
+use Prim.Native.Nat.{ℕ}
+use mathlib.Core.Bool.{Bool, true, false, cond, _||_}
+use mathlib.Core.List.{List, [], _∷_}
+use lib.Dec.{eqb}
+use Rattle.render.specs.declared.render.Ancestor.{Ancestor as Entry}
+use Rattle.render.specs.declared.render.Ancestor.the-variants.{Ancestor as Indirect, Parent as Direct, Anonymous}
+
+-- the calls of demand 3's list: reserving calls and row calls, with their arguments
+pub data Call : Type 0 where
+  Reserve : ℕ → Call
+  Row : ℕ → List Entry → Call
+
+-- how an id waits ("waits" in document 01)
+pub data Wait : Type 0 where
+  Idle : Wait
+  AsReserved : Wait
+  AsNamed : Wait
+
+-- for each id, whether it waits and how
+abbrev pub Waiting : Type 0
+Waiting = ℕ → Wait
+
+-- "At first no id waits."
+abbrev pub nobody : Waiting
+nobody x = Idle
+
+-- "each id in its Ancestor and Parent entries"
+abbrev pub names : ℕ → Entry → Bool
+names x (Indirect n) = eqb x n
+names x (Direct n) = eqb x n
+names x Anonymous = false
+
+abbrev pub named : ℕ → List Entry → Bool
+named x [] = false
+named x (e ∷ es) = names x e || named x es
+
+-- "makes its id wait as reserved, unless it waits already"
+abbrev pub unlessWaiting : Wait → Wait
+unlessWaiting Idle = AsReserved
+unlessWaiting AsReserved = AsReserved
+unlessWaiting AsNamed = AsNamed
+
+-- "An accepted row first ends the wait of its node's id; then each id in its Ancestor and Parent entries waits as named, one that was only reserved too."
+abbrev pub waitsAfter : Call → Waiting → Waiting
+waitsAfter (Reserve n) w x = cond (eqb x n) (unlessWaiting (w x)) (w x)
+waitsAfter (Row n es) w x = cond (named x es) AsNamed (cond (eqb x n) Idle (w x))
+
+-- "A refused call changes nothing."
+abbrev pub account : Call → Bool → Waiting → Waiting
+account k true w = w
+account k false w = waitsAfter k w

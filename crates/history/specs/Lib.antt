@@ -1,0 +1,4 @@
+pub mod Account
+pub mod Demand3
+pub mod Ours
+pub mod Wrong

@@ -1,0 +1,66 @@
+-- Machines that demand 3 must rule out: ours with one thing wrong.
+use Prim.Native.Nat.{ℕ}
+use mathlib.Core.Bool.{Bool, true, false, cond}
+use mathlib.Core.List.{List, [], _∷_, map, reverse}
+use Rattle.column.specs.declared.Column.{Column}
+use Rattle.column.specs.declared.Column.the-variants.{Empty, Blocked, Reserved, Ancestor, Parent}
+use Rattle.column.specs.Columns.{reset}
+use Rattle.row_shape.specs.Shaper.{View, isNothing, withColumns}
+use Rattle.row_shape.specs.Placing.{place}
+use Rattle.prefix_lines.specs.declared.Renderer.the-variants.{Curved}
+use Rattle.history.specs.Account.{Call, Reserve, Row}
+use Rattle.history.specs.Demand3.{Stroke, Blank, Dashed, Solid, Machine}
+use Rattle.history.specs.Ours.{refuses, after, ours}
+
+-- ours with another state after each call, and with other foot lines
+abbrev pub withAfter : (View → Call → View) → Machine
+withAfter f =
+    let m : Machine = ours Curved in
+    record { State = View; columns = λ v. v .columns; refuses = refuses; after = f; node = m .node; head = m .head; foot = m .foot }
+
+abbrev pub withFoot : (View → Call → List Stroke) → Machine
+withFoot f =
+    let m : Machine = ours Curved in
+    record { State = View; columns = λ v. v .columns; refuses = refuses; after = after; node = m .node; head = m .head; foot = f }
+
+-- "a row that leaves the columns untouched"
+abbrev pub untouchedAfter : View → Call → View
+untouchedAfter v (Reserve n) = after v (Reserve n)
+untouchedAfter v (Row n es) = withColumns (after v (Row n es)) (v .columns)
+
+abbrev pub untouched : Machine
+untouched = withAfter untouchedAfter
+
+-- "a first row drawn truly, then blanks"
+abbrev pub blankFoot : View → Call → List Stroke
+blankFoot v k = cond (isNothing (v .previous)) (ours Curved .foot v k) []
+
+abbrev pub blankLater : Machine
+blankLater = withFoot blankFoot
+
+-- a row that moves ids without cause
+abbrev pub reversedAfter : View → Call → View
+reversedAfter v (Reserve n) = after v (Reserve n)
+reversedAfter v (Row n es) = withColumns (after v (Row n es)) (reverse (after v (Row n es) .columns))
+
+abbrev pub reversing : Machine
+reversing = withAfter reversedAfter
+
+-- a row that leaves a single entry to the right where it is
+abbrev pub unswappedAfter : View → Call → View
+unswappedAfter v (Reserve n) = after v (Reserve n)
+unswappedAfter v (Row n es) = withColumns (after v (Row n es)) (reset (place v n es .walked))
+
+abbrev pub unswapping : Machine
+unswapping = withAfter unswappedAfter
+
+-- a foot line that draws reserved ids
+abbrev pub heldStroke : Column → Stroke
+heldStroke Empty = Blank
+heldStroke Blocked = Blank
+heldStroke (Reserved n) = Solid
+heldStroke (Ancestor n) = Dashed
+heldStroke (Parent n) = Solid
+
+abbrev pub drawsReserved : Machine
+drawsReserved = withFoot (λ v k. map heldStroke (after v k .columns))

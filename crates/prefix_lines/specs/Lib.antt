@@ -1,0 +1,9 @@
+pub mod Ascii
+pub mod AsciiLarge
+pub mod BoxDrawing
+pub mod Characters
+pub mod GlyphSets
+pub mod Joins
+pub mod Marks
+pub mod PrefixLines
+pub mod Row

@@ -1,0 +1,56 @@
+// What the renderers look at and what they give each cell, after types.rs.
+use render::Cell;
+use render::DashStyle;
+use render::LinkLine;
+
+// The lines of a row, in their order (`PrefixLineKind` in types.rs; large ASCII draws two link lines, and a term line is two).
+pub enum Line {
+    PreNode,
+    Node,
+    PostNode,
+    Link,
+    SecondLink,
+    Term,
+    SecondTerm,
+    Ancestry,
+    PostAncestry,
+}
+
+// What a cell is given.
+pub enum Choice {
+    // Blanks.
+    Space,
+    // The solid upright.
+    Solid,
+    // The dashed upright.
+    Dashed,
+    // The node's mark.
+    Mark,
+    // The end of an anonymous parent's line.
+    End,
+    // Two or three link characters of an ASCII renderer.
+    Two(u8, u8),
+    Three(u8, u8, u8),
+    // A link glyph's number in box drawing.
+    Glyph(usize),
+}
+
+// The facts of a row that its cells' choices depend on.
+pub struct Row {
+    pub is_head: bool,
+    pub is_root: bool,
+    pub merge: bool,
+    pub dash_style: DashStyle,
+    pub link_line: bool,
+    pub term_line: bool,
+    // Whether some cell of the link line has a horizontal stroke.
+    pub any_horizontal: bool,
+    pub has_indirect_ancestor: bool,
+}
+
+// A cell with its index, and the next cell's link, which is empty past the end.
+pub struct Place {
+    pub index: usize,
+    pub cell: Cell,
+    pub next: LinkLine,
+}
