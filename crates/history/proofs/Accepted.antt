@@ -3,7 +3,7 @@ use Prim.Native.Nat.{ℕ, zero, suc, _≤_}
 use mathlib.Core.Path.{_≡_, refl}
 use mathlib.Core.Bool.{Bool, true, false, _||_}
 use mathlib.Core.List.{List}
-use borrow.Author.Tests.{le-ltb, ltb-false}
+use borrow.Author.Tests.{ltb-false}
 use native.Mathlib.Omega.{arith}
 use lib.Dec.{ltb}
 use lib.ListN.{length}
@@ -15,6 +15,7 @@ use Rattle.row_shape.specs.Placing.{Placed, place}
 use Rattle.row_shape.specs.Row.{row, rowAnswer, rowChecks}
 use Rattle.prefix_lines.specs.declared.Renderer.{Renderer}
 use Rattle.prefix_lines.specs.PrefixLines.{linesBytes, nextPrefixLines}
+use Rattle.prefix_lines.proofs.CallLaws.{accepts}
 
 -- a row that is not refused has at most 64 cells
 shape-fits : (v : View) (n : ℕ) (es : List Entry) (p : Placed) (many wide : Bool) → ltb columnLimit (length (p .walked)) ≡ wide
@@ -34,10 +35,4 @@ pub renderer-accepts : (v : View) (n : ℕ) (many : Bool) (es : List Entry) (q :
     → row v n many es .refusal ≡ 0 → 0x21 ≤ mark → mark ≤ 0x7e
     → length (linesBytes q (row v n many es .shape) mark) ≤ length out
     → nextPrefixLines (row v n many es .shape) q mark out .refusal ≡ 0
-renderer-accepts v n many es q mark out h low high room =
-    rw (
-      le-ltb mark 0x21 low,
-      le-ltb 0x7e mark high,
-      le-ltb columnLimit (row v n many es .shape .width) (row-fits v n many es h),
-      le-ltb (length out) (length (linesBytes q (row v n many es .shape) mark)) room,
-    )
+renderer-accepts v n many es q mark out h low high room = accepts (row v n many es .shape) q mark out low high (row-fits v n many es h) room

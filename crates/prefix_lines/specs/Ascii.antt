@@ -1,6 +1,6 @@
 -- The ASCII renderer, after ascii.rs.
 use Prim.Native.Nat.{ℕ}
-use mathlib.Core.Bool.{Bool, cond, not, _&&_}
+use mathlib.Core.Bool.{cond, not, _&&_}
 use mathlib.Core.List.{List, [], _∷_}
 use Rattle.render.specs.declared.render.LinkLine.{LinkLine}
 use Rattle.render.specs.declared.render.NodeLine.{NodeLine}

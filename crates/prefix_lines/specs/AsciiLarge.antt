@@ -48,10 +48,11 @@ termChoice x c = cond (c .term) x (padChoice (c .ancestry))
 abbrev pub stroke : LinkLine → LinkLine → LinkLine → ℕ → ℕ → ℕ → ℕ
 stroke cur parent indirect solid dashed other = cond (meets cur parent) solid (cond (meets cur indirect) dashed other)
 
--- "Top left", "Top center", "Top right", each with the horizontal stroke below what comes first
+-- the horizontal stroke of the upper link line
 unfoldable pub level : LinkLine → ℕ
 level cur = stroke cur horizParent horizAncestor underscore dot blank
 
+-- "Top left", "Top center", "Top right"
 unfoldable pub topLeft : LinkLine → ℕ
 topLeft cur = stroke cur leftMergeParent leftMergeAncestor slash dot (level cur)
 

@@ -48,9 +48,11 @@ TERMINATION = 13
 abbrev pub ANCESTOR-ONCE : ℕ
 ANCESTOR-ONCE = 14
 
+-- the ASCII renderers draw no glyphs
 abbrev pub noGlyphs : List (List ℕ)
 noGlyphs = replicate 15 []
 
+-- the three sets, each glyph as its bytes
 abbrev pub square : List (List ℕ)
 square =
     (0x20 ∷ 0x20 ∷ []) ∷  -- space

@@ -3,6 +3,7 @@ pub mod AsciiLarge
 pub mod BoxDrawing
 pub mod Characters
 pub mod GlyphSets
+pub mod Inner
 pub mod Joins
 pub mod Marks
 pub mod PrefixLines

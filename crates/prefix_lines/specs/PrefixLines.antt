@@ -2,7 +2,7 @@
 use Prim.Native.Nat.{ℕ, zero, suc}
 use mathlib.Core.Bool.{Bool, true, false, cond, _&&_, _||_}
 use mathlib.Core.List.{List, [], _∷_, _++_, map}
-use lib.Dec.{ltb, eqb}
+use lib.Dec.{ltb}
 use lib.ListN.{length, getD}
 use Rattle.column.specs.Columns.{columnLimit}
 use Rattle.render.specs.declared.types.DashStyle.{DashStyle}
@@ -73,6 +73,7 @@ choiceOf Square r l p = box.choice r l p
 choiceOf Curved r l p = box.choice r l p
 choiceOf Dec r l p = box.choice r l p
 
+-- a prefix line: its kind, and what each cell is given
 pub record PrefixLine : Type 0 where
   pub kind : Line
   pub choices : List Choice

@@ -18,6 +18,7 @@ abbrev pub anyOf : (Cell → Bool) → List Cell → Bool
 anyOf t [] = false
 anyOf t (c ∷ cs) = t c || anyOf t cs
 
+-- the tests of `any_horizontal` and `has_indirect_ancestor`
 abbrev pub isHorizontal : Cell → Bool
 isHorizontal c = meets (c .link) horizontal
 

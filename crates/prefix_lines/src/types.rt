@@ -1,4 +1,10 @@
 // What the renderers look at and what they give each cell, after types.rs.
+ghost use mathlib.Core.Path.{_≡_};
+ghost use mathlib.Core.List.{[], _∷_};
+ghost use Prim.Native.Nat.{_≤_};
+ghost use lib.ListN.{length, take};
+ghost use Rattle.prefix_lines.specs.Inner.{Holds};
+ghost use Rattle.prefix_lines.specs.Joins.{over};
 use render::Cell;
 use render::DashStyle;
 use render::LinkLine;
@@ -53,4 +59,57 @@ pub struct Place {
     pub index: usize,
     pub cell: Cell,
     pub next: LinkLine,
+}
+
+// The bytes of one cell: the first `length` of eight.
+pub struct Glyph {
+    pub bytes: [u8; 8],
+    pub length: usize,
+}
+
+impl Glyph {
+    // No bytes.
+    pub(crate) fn none() -> Glyph
+        ensures { λ r. ⌜ Holds r [] ⌝ }
+    {
+        Glyph {
+            bytes: [0, 0, 0, 0, 0, 0, 0, 0],
+            length: 0,
+        }
+    }
+
+    // Two bytes.
+    pub(crate) fn two(a: u8, b: u8) -> Glyph
+        ensures { λ r. ⌜ Holds r (a ∷ b ∷ []) ⌝ }
+    {
+        Glyph {
+            bytes: [a, b, 0, 0, 0, 0, 0, 0],
+            length: 2,
+        }
+    }
+
+    // Three bytes.
+    pub(crate) fn three(a: u8, b: u8, c: u8) -> Glyph
+        ensures { λ r. ⌜ Holds r (a ∷ b ∷ c ∷ []) ⌝ }
+    {
+        Glyph {
+            bytes: [a, b, c, 0, 0, 0, 0, 0],
+            length: 3,
+        }
+    }
+}
+
+// Writes a glyph's bytes, and gives their count.
+pub(crate) fn write_glyph(out: &mut [u8], glyph: Glyph) -> usize
+    requires { ⌜ (glyph .length ≤ 8) × (glyph .length ≤ length (now out)) ⌝ }
+    ensures { λ r. ⌜ (r ≡ glyph .length) × (now (out .exit) ≡ over (take (glyph .length) (glyph .bytes)) (now (out .entry))) ⌝ }
+{
+    let bytes = glyph.bytes;
+    let length = glyph.length;
+    let mut i: usize = 0;
+    while i < length {
+        out[i] = bytes[i];
+        i += 1;
+    }
+    length
 }

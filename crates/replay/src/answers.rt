@@ -1,4 +1,6 @@
 // The lines that answer each command.
+use crate::page;
+use crate::page::Page;
 use crate::printer::Buffer;
 use crate::printer::Printer;
 use crate::printer::put;
@@ -169,6 +171,27 @@ fn put_width(out: &mut Buffer, printer: Printer, refusal: u8, width: u64) -> Pri
     put_line(out, line, b" ", width)
 }
 
+// `out COUNT:BYTES`
+fn put_out(out: &mut Buffer, printer: Printer, bytes: &[u8]) -> Printer {
+    let named = put_named(out, printer, b"out ", bytes.len() as u64);
+    let colon = put(out, named, b":");
+    let whole = put(out, colon, bytes);
+    put(out, whole, b"\n")
+}
+
+// `renderer REFUSAL LENGTH`, then the output.
+fn put_renderer(
+    out: &mut Buffer,
+    printer: Printer,
+    refusal: u8,
+    length: u64,
+    output: &[u8],
+) -> Printer {
+    let named = put_named(out, printer, b"renderer ", refusal as u64);
+    let line = put_line(out, named, b" ", length);
+    put_out(out, line, output)
+}
+
 // `repeated TIMES`, then the shaper and the text state.
 fn put_repeated(out: &mut Buffer, printer: Printer, times: u32, shaper: Shaper) -> Printer {
     let line = put_line(out, printer, b"repeated ", times as u64);
@@ -177,7 +200,7 @@ fn put_repeated(out: &mut Buffer, printer: Printer, times: u32, shaper: Shaper) 
 }
 
 // All lines of a command's reply.
-pub(crate) fn put_reply(out: &mut Buffer, printer: Printer, reply: Reply) -> Printer {
+pub(crate) fn put_reply(out: &mut Buffer, printer: Printer, page: &Page, reply: Reply) -> Printer {
     let state = reply.state;
     let shaper = state.shaper;
     let shape = state.shape;
@@ -189,6 +212,9 @@ pub(crate) fn put_reply(out: &mut Buffer, printer: Printer, reply: Reply) -> Pri
         Answer::Reserve(refusal) => put_reserve(out, printer, refusal, shaper),
         Answer::Row(refusal) => put_row(out, printer, refusal, shape, shaper),
         Answer::Width(refusal, width) => put_width(out, printer, refusal, width),
+        Answer::Renderer(refusal, length, room) => {
+            put_renderer(out, printer, refusal, length, page::output(page, room))
+        }
         Answer::Shaper => put_shaper(out, printer, shaper),
         Answer::Shape => put_shape(out, printer, shape),
         Answer::Repeated(times) => put_repeated(out, printer, times, shaper),

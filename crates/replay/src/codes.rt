@@ -9,6 +9,7 @@ use column::COLUMN_LIMIT;
 use column::Column;
 use column::Found;
 use column::Slot;
+use prefix_lines::Renderer;
 use render::Ancestor;
 use render::Cell;
 use render::DashStyle;
@@ -160,6 +161,17 @@ pub(crate) fn new_node_at(payload: &[u8], at: usize) -> NewNode {
         return NewNode::Node(u32_at(payload, after(at, 1)));
     }
     NewNode::Absent
+}
+
+// The renderer with this code; one above 4 is DEC.
+pub(crate) fn renderer(code: u8) -> Renderer {
+    match code {
+        0 => Renderer::Ascii,
+        1 => Renderer::AsciiLarge,
+        2 => Renderer::Square,
+        3 => Renderer::Curved,
+        _ => Renderer::Dec,
+    }
 }
 
 // The node line's cell with this code; one above 3 is blank.

@@ -2,6 +2,7 @@
 mod answers;
 mod codes;
 mod input;
+mod page;
 mod printer;
 mod run;
 mod shapes;
@@ -10,6 +11,7 @@ mod words;
 use input::Bytes;
 use input::HEADER;
 use libc::STDIN_FILENO;
+use page::Page;
 use printer::Buffer;
 use printer::Printer;
 use run::State;
@@ -23,11 +25,17 @@ struct Progress {
 }
 
 // Answers one command.
-fn answer(letter: u8, payload: &[u8], out: &mut Buffer, progress: Progress) -> Progress {
+fn answer(
+    letter: u8,
+    payload: &[u8],
+    page: &mut Page,
+    out: &mut Buffer,
+    progress: Progress,
+) -> Progress {
     let state = progress.state;
-    let reply = run::run(letter, payload, state);
+    let reply = run::run(letter, payload, page, state);
     let before = progress.printer;
-    let printer = answers::put_reply(out, before, reply);
+    let printer = answers::put_reply(out, before, page, reply);
     let after = reply.state;
     Progress {
         state: after,
@@ -38,7 +46,7 @@ fn answer(letter: u8, payload: &[u8], out: &mut Buffer, progress: Progress) -> P
 }
 
 // Answers every whole command of the bytes, up to a write that fails.
-fn answer_all(bytes: &[u8], out: &mut Buffer, progress: Progress) -> Progress {
+fn answer_all(bytes: &[u8], page: &mut Page, out: &mut Buffer, progress: Progress) -> Progress {
     let mut now = progress;
     let mut at: usize = 0;
     while at < bytes.len() {
@@ -49,7 +57,7 @@ fn answer_all(bytes: &[u8], out: &mut Buffer, progress: Progress) -> Progress {
         }
         let letter = bytes[at];
         let payload = input::part(bytes, at + HEADER, end);
-        now = answer(letter, payload, out, now);
+        now = answer(letter, payload, page, out, now);
         let printer = now.printer;
         if !printer.open {
             return now;
@@ -61,7 +69,12 @@ fn answer_all(bytes: &[u8], out: &mut Buffer, progress: Progress) -> Progress {
 }
 
 // Reads as much as there is room for and answers it. The printer is closed where the stream ends.
-fn answer_more(bytes: &mut Bytes, out: &mut Buffer, progress: Progress) -> Progress {
+fn answer_more(
+    bytes: &mut Bytes,
+    page: &mut Page,
+    out: &mut Buffer,
+    progress: Progress,
+) -> Progress {
     let kept = input::keep(bytes, progress.at, progress.end);
     let end = input::fill(STDIN_FILENO, bytes, kept);
     let mut next = progress;
@@ -72,11 +85,11 @@ fn answer_more(bytes: &mut Bytes, out: &mut Buffer, progress: Progress) -> Progr
         next.printer = printer;
         return next;
     }
-    answer_all(input::part(bytes, 0, end), out, next)
+    answer_all(input::part(bytes, 0, end), page, out, next)
 }
 
 // Answers the stream. A proved loop has to end, so this one counts its turns down, from a number that no run uses up.
-fn answer_stream(bytes: &mut Bytes, out: &mut Buffer) {
+fn answer_stream(bytes: &mut Bytes, page: &mut Page, out: &mut Buffer) {
     let state = State::new();
     let printer = Printer::new();
     let mut progress = Progress {
@@ -87,7 +100,7 @@ fn answer_stream(bytes: &mut Bytes, out: &mut Buffer) {
     };
     let mut turns = u64::MAX;
     while turns > 0 && progress.printer.open {
-        progress = answer_more(bytes, out, progress);
+        progress = answer_more(bytes, page, out, progress);
         turns -= 1;
     }
 }
@@ -95,6 +108,7 @@ fn answer_stream(bytes: &mut Bytes, out: &mut Buffer) {
 // Lends the buffers.
 fn main() {
     let mut bytes = [0u8; input::ROOM];
+    let mut page = [0u8; page::ROOM];
     let mut out = [0u8; printer::ROOM];
-    answer_stream(&mut bytes, &mut out);
+    answer_stream(&mut bytes, &mut page, &mut out);
 }

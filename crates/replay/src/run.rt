@@ -2,6 +2,8 @@
 use crate::codes;
 use crate::input;
 use crate::input::HEADER;
+use crate::page;
+use crate::page::Page;
 use render::Entries;
 use render::Options;
 use render::RowShape;
@@ -14,7 +16,8 @@ pub(crate) struct State {
     pub(crate) shape: RowShape,
 }
 
-// What a command answers, beside the state that it leaves. The calls give their refusal's number.
+// What a command answers, beside the state that it leaves. The calls give their refusal's number. A renderer call leaves
+// its output on the page, and gives the output's length last.
 pub(crate) enum Answer {
     NotBuilt,
     List(u32),
@@ -22,6 +25,7 @@ pub(crate) enum Answer {
     Reserve(u8),
     Row(u8),
     Width(u8, u64),
+    Renderer(u8, u64, usize),
     Shaper,
     Shape,
     Repeated(u32),
@@ -110,6 +114,17 @@ fn width(payload: &[u8], state: State) -> Reply {
     Reply { answer, state }
 }
 
+// `P`: renderer (at 0), mark (1), output length (2).
+fn render(payload: &[u8], page: &mut Page, state: State) -> Reply {
+    let shape = state.shape;
+    let renderer = codes::renderer(input::u8_at(payload, 0));
+    let mark = input::u8_at(payload, 1);
+    let length = input::u32_at(payload, 2) as usize;
+    let given = page::draw(page, length, shape, renderer, mark);
+    let answer = Answer::Renderer(given.refusal, given.length as u64, length);
+    Reply { answer, state }
+}
+
 // `S`: count (at 0), previous (8), options (17), slots (28).
 fn set_shaper(payload: &[u8], state: State) -> Reply {
     let slots = codes::slots_at(payload, 28);
@@ -150,13 +165,14 @@ fn not_built(state: State) -> Reply {
 }
 
 // Runs one command that is no repeat.
-fn call(letter: u8, payload: &[u8], state: State) -> Reply {
+fn call(letter: u8, payload: &[u8], page: &mut Page, state: State) -> Reply {
     match letter {
         b'L' => list(payload),
         b'N' => new_shaper(payload, state),
         b'R' => reserve(payload, state),
         b'W' => row(payload, state),
         b'V' => width(payload, state),
+        b'P' => render(payload, page, state),
         b'S' => set_shaper(payload, state),
         b'H' => set_shape(payload, state),
         _ => not_built(state),
@@ -164,7 +180,7 @@ fn call(letter: u8, payload: &[u8], state: State) -> Reply {
 }
 
 // Runs every whole command of the bytes once; a repeat among them is skipped.
-fn run_once(bytes: &[u8], state: State) -> State {
+fn run_once(bytes: &[u8], page: &mut Page, state: State) -> State {
     let mut now = state;
     let mut at: usize = 0;
     while at < bytes.len() {
@@ -172,7 +188,7 @@ fn run_once(bytes: &[u8], state: State) -> State {
         if end <= at {
             return now;
         }
-        let reply = call(bytes[at], input::part(bytes, at + HEADER, end), now);
+        let reply = call(bytes[at], input::part(bytes, at + HEADER, end), page, now);
         now = reply.state;
         at = end;
     }
@@ -180,13 +196,13 @@ fn run_once(bytes: &[u8], state: State) -> State {
 }
 
 // `X`: times (at 0), commands (4).
-fn repeat(payload: &[u8], state: State) -> Reply {
+fn repeat(payload: &[u8], page: &mut Page, state: State) -> Reply {
     let times = input::u32_at(payload, 0);
     let commands = input::part(payload, 4, payload.len());
     let mut now = state;
     let mut turn: u32 = 0;
     while turn < times {
-        now = run_once(commands, now);
+        now = run_once(commands, page, now);
         turn += 1;
     }
     let answer = Answer::Repeated(times);
@@ -194,9 +210,9 @@ fn repeat(payload: &[u8], state: State) -> Reply {
 }
 
 // Runs one command.
-pub(crate) fn run(letter: u8, payload: &[u8], state: State) -> Reply {
+pub(crate) fn run(letter: u8, payload: &[u8], page: &mut Page, state: State) -> Reply {
     if letter == b'X' {
-        return repeat(payload, state);
+        return repeat(payload, page, state);
     }
-    call(letter, payload, state)
+    call(letter, payload, page, state)
 }

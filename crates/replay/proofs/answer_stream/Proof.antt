@@ -5,10 +5,10 @@ use Rattle.replay.proofs.answer_stream.Tie as tie
 use borrow.Author.Needs.{needs}
 
 abbrev Inv-loop : tie.InvT-loop
-Inv-loop bytes₀ out₀ progress₀ turns₀ bytes out progress turns = Unit {0}
+Inv-loop bytes₀ page₀ out₀ progress₀ turns₀ bytes page out progress turns = Unit {0}
 
 abbrev μ-loop : tie.MeasureT-loop
-μ-loop bytes₀ out₀ progress₀ turns₀ bytes out progress turns = turns
+μ-loop bytes₀ page₀ out₀ progress₀ turns₀ bytes page out progress turns = turns
 
 new-requires : tie.Need-new-requires Inv-loop μ-loop
 new-requires c κs = search needs

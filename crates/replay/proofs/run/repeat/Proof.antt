@@ -6,10 +6,10 @@ use Prim.Native.Nat.{_-_}
 use borrow.Author.Needs.{needs}
 
 abbrev Inv-loop : tie.InvT-loop
-Inv-loop payload times commands now₀ turn₀ now turn = Unit {0}
+Inv-loop payload page₀ times commands now₀ turn₀ page now turn = Unit {0}
 
 abbrev μ-loop : tie.MeasureT-loop
-μ-loop payload times commands now₀ turn₀ now turn = times - turn
+μ-loop payload page₀ times commands now₀ turn₀ page now turn = times - turn
 
 u32-at-requires : tie.Need-u32-at-requires Inv-loop μ-loop
 u32-at-requires c κs = search needs

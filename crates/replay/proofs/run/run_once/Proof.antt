@@ -7,10 +7,10 @@ use borrow.Author.Needs.{needs}
 use lib.ListN.{length}
 
 abbrev Inv-loop : tie.InvT-loop
-Inv-loop bytes now₀ at₀ now at = Unit {0}
+Inv-loop bytes page₀ now₀ at₀ page now at = Unit {0}
 
 abbrev μ-loop : tie.MeasureT-loop
-μ-loop bytes now₀ at₀ now at = length bytes - at
+μ-loop bytes page₀ now₀ at₀ page now at = length bytes - at
 
 loop-holds : tie.Need-loop-holds Inv-loop μ-loop
 loop-holds c = search needs

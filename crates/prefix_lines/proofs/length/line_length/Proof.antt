@@ -1,0 +1,28 @@
+use mathlib.Core.Path.{sym, _∙_}
+use native.Mathlib.Omega.{arith}
+use lib.ListN.{take, length-take}
+use Rattle.prefix_lines.specs.Inner.{entry}
+use Rattle.prefix_lines.proofs.LineLaws.{cells-short, present-length, absent}
+use Rattle.prefix_lines.proofs.TableLaws.{entry-short}
+use borrow.Author.Needs.{needs}
+use Rattle.prefix_lines.proofs.length.line_length.Statement.{statement}
+use Rattle.prefix_lines.proofs.length.line_length.Tie as tie
+
+is-present-requires : tie.Need-is-present-requires
+is-present-requires c κs = search needs
+
+cells-length-requires : tie.Need-cells-length-requires
+cells-length-requires c κs = search needs
+
+add-result : tie.Need-add-result
+add-result c = let a = c .before .before .before .args in omega (arith, c .cells-length .ensures, cells-short (entry (a .table .now)) (entry-short (a .table .now)) (a .renderer) (a .row) (a .mark) (a .line) (take (a .width) (a .cells)), length-take (a .width) (a .cells))
+
+returns : tie.Need-returns
+returns c = let a = c .before .before .before .args in rw (present-length (entry (a .table .now)) (a .renderer) (a .row) (a .mark) (a .line) (take (a .width) (a .cells)) (sym (c .before .before .is-present .ensures) ∙ c .before .if1 .taken), ← c .cells-length .ensures)
+
+returns-2 : tie.Need-returns-2
+returns-2 c = let a = c .before .before .args in rw (absent (entry (a .table .now)) (a .renderer) (a .row) (a .mark) (a .line) (take (a .width) (a .cells)) (sym (c .before .is-present .ensures) ∙ c .if1 .left))
+
+pub line-length-spec : {M : Type 1} → statement M
+line-length-spec =
+    tie.close (tie.spec is-present-requires cells-length-requires add-result returns returns-2)

@@ -1,0 +1,92 @@
+// How long the lines are: the count before anything is written.
+ghost use mathlib.Core.Path.{_≡_};
+ghost use Prim.Native.Nat.{_≤_};
+ghost use lib.ListN.{length, take};
+ghost use Rattle.column.specs.Columns.{columnLimit};
+ghost use Rattle.prefix_lines.specs.Inner.{cellsText, lineText, linesText, entry};
+use crate::Renderer;
+use crate::box_drawing::TABLE;
+use crate::choice::cell_glyph;
+use crate::choice::next_index;
+use crate::choice::next_link;
+use crate::row::LINES;
+use crate::row::is_present;
+use crate::row::line_at;
+use crate::types::Line;
+use crate::types::Place;
+use crate::types::Row;
+use column::COLUMN_LIMIT;
+use render::Cell;
+
+// The length of a line's cells.
+fn cells_length(
+    table: &[u8; TABLE],
+    renderer: Renderer,
+    row: Row,
+    mark: u8,
+    line: Line,
+    cells: [Cell; COLUMN_LIMIT],
+    width: usize,
+) -> usize
+    requires { ⌜ width ≤ columnLimit ⌝ }
+    ensures { λ r. ⌜ r ≡ length (cellsText (entry (now (table .entry))) renderer row mark (take width cells) line) ⌝ }
+{
+    let mut count: usize = 0;
+    let mut i: usize = 0;
+    while i < width {
+        let cell = cells[i];
+        let k = next_index(i);
+        let after = cells[k];
+        let next = next_link(after, i, width);
+        let place = Place {
+            index: i,
+            cell,
+            next,
+        };
+        let glyph = cell_glyph(table, renderer, row, mark, line, place);
+        count += glyph.length;
+        i += 1;
+    }
+    count
+}
+
+// The length of a line with its letter and its end; 0 where the row has none.
+fn line_length(
+    table: &[u8; TABLE],
+    renderer: Renderer,
+    row: Row,
+    mark: u8,
+    line: Line,
+    cells: [Cell; COLUMN_LIMIT],
+    width: usize,
+) -> usize
+    requires { ⌜ width ≤ columnLimit ⌝ }
+    ensures { λ r. ⌜ r ≡ length (lineText (entry (now (table .entry))) renderer row mark (take width cells) line) ⌝ }
+{
+    if is_present(renderer, row, line) {
+        return cells_length(table, renderer, row, mark, line, cells, width) + 2;
+    }
+    0
+}
+
+// The length of a row's lines.
+pub(crate) fn lines_length(
+    table: &[u8; TABLE],
+    renderer: Renderer,
+    row: Row,
+    mark: u8,
+    cells: [Cell; COLUMN_LIMIT],
+    width: usize,
+) -> usize
+    requires { ⌜ width ≤ columnLimit ⌝ }
+    ensures { λ r. ⌜ r ≡ length (linesText (entry (now (table .entry))) renderer row mark (take width cells)) ⌝ }
+{
+    let mut count: usize = 0;
+    let mut k: usize = 0;
+    while k < LINES {
+        let line = line_at(k);
+        count += line_length(table, renderer, row, mark, line, cells, width);
+        k += 1;
+    }
+    count
+}
