@@ -108,7 +108,7 @@ isSome (At p) = true
 abbrev pub within : ℕ → ℕ → ℕ → Bool
 within a b i = ltb a i && ltb i b
 
--- the marks that come from the node, in cell i. Of a swap: whether there was one, whether its strokes are solid, whether i is the column given up, whether
+-- the marks that come from the node, in cell i (`link_line_from_node` in `next_row_shape`, `horizontal_line`, `ancestor_to_link_line`). Of a swap: whether there was one, whether its strokes are solid, whether i is the column given up, whether
 -- i lies left of it. Of the entry that draws in the cell: whether there is one, and whether it is direct or indirect
 abbrev pub marksAt : AncestorColumnBounds → ℕ → Bool → Bool → Bool → Bool → Bool → Bool → Bool → Marks
 marksAt b i swapped solid gone ahead met direct indirect =
@@ -140,7 +140,7 @@ fromNode b w i m =
     let up : Found = w .«given_up» in
     marksAt b i (isSome up) (w .«was_direct») (isAt up i) (before i up) (isMet m) (metDirect m) (metIndirect m)
 
--- with the lines that go straight on: those of the columns before the entries, but not in the column given up
+-- with the lines that go straight on: those of the columns before the entries, but not in the column given up (`column_to_link_line`)
 abbrev pub withUprights : Bool → Column → Marks → Marks
 withUprights gone b m =
     record {
@@ -159,6 +159,6 @@ withUprights gone b m =
       child = m .child;
     }
 
--- "A link line exists" where an entry's column, or the one given up, is not the node's own
+-- there is a link line where an entry's column, or the one given up, is not the node's own (`need_link_line`)
 abbrev pub linked : AncestorColumnBounds → Swap → Bool
 linked b w = isSome (w .«given_up») || (ltb (b .«min_ancestor») (b .target) || ltb (b .target) (b .«max_ancestor»))

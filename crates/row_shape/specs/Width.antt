@@ -27,7 +27,7 @@ abbrev pub count {ℓ} : {A : Type ℓ} → (A → Bool) → List A → ℕ
 count t [] = 0
 count t (a ∷ l) = cond (t a) 1 0 + count t l
 
--- columns and, of them, Empty ones
+-- columns and, of them, Empty ones: what `width_with_options` counts, rule by rule below
 pub record Room : Type 0 where
   pub wide : ℕ
   pub free : ℕ
