@@ -9,11 +9,11 @@ use lib.Dec.{ltb}
 use lib.ListN.{length}
 use Rattle.column.specs.Columns.{columnLimit}
 use Rattle.render.specs.declared.render.Ancestor.{Ancestor as Entry}
-use Rattle.row_shape.specs.Refusals.{refusal}
-use Rattle.row_shape.specs.Shaper.{View}
-use Rattle.row_shape.specs.Placing.{Placed, place}
+use Rattle.render.specs.Refusals.{refusal}
+use Rattle.shaper.specs.Shaper.{View}
+use Rattle.placing.specs.Placing.{Placed, place}
 use Rattle.row_shape.specs.Row.{row, rowAnswer, rowChecks}
-use Rattle.prefix_lines.specs.declared.Renderer.{Renderer}
+use Rattle.glyphs.specs.declared.Renderer.{Renderer}
 use Rattle.prefix_lines.specs.PrefixLines.{linesBytes, nextPrefixLines}
 use Rattle.prefix_lines.proofs.CallLaws.{accepts}
 

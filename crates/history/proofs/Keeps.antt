@@ -18,15 +18,16 @@ use Rattle.render.specs.declared.render.Ancestor.{Ancestor as Entry}
 use Rattle.render.specs.declared.types.Options.{Options}
 use Rattle.render.specs.Entries.{entryLimit, entryId}
 use Rattle.render.specs.Lines.{preNodeLine, postAncestryLine}
-use Rattle.row_shape.specs.Refusals.{refusal}
-use Rattle.row_shape.specs.Shaper.{heightLimit, View, Reply, answer, newShaper, reserveChecks, reservedIn, reserved, withColumns, reserve}
-use Rattle.row_shape.specs.Placing.{nodeColumn, Placed, placeAt, place}
+use Rattle.render.specs.Refusals.{refusal}
+use Rattle.shaper.specs.Shaper.{heightLimit, View, Reply, answer, newShaper, reserveChecks, reservedIn, reserved, withColumns, reserve}
+use Rattle.shaper.specs.NodeColumn.{nodeColumn}
+use Rattle.placing.specs.Placing.{Placed, placeAt, place}
 use Rattle.row_shape.specs.Row.{RowReply, rowChecks, shapeAt, rowAfter, rowAnswer, row}
-use Rattle.row_shape.specs.Marked.{rowOf}
+use Rattle.marked.specs.Marked.{rowOf}
 use Rattle.history.specs.Account.{Call, Reserve, Row, Wait, Idle, AsNamed, Waiting, nobody, account, waitsAfter}
 use Rattle.history.specs.Demand3.{Stroke, Machine, cell, isStroke, overNode, Holds, Wait-in, Tidy, OneEntry, Own, Pulls, Moves, Drawn, Draws, footAfter, Kept, Keeps, KeepsEveryLine}
 use Rattle.history.specs.Ours.{isRefusal, refuses, after, headLine, footLine, ours}
-use Rattle.prefix_lines.specs.declared.Renderer.{Renderer}
+use Rattle.glyphs.specs.declared.Renderer.{Renderer}
 use Rattle.history.proofs.Lines.{padStroke, head-shows as head-line, foot-shows as foot-line}
 use Rattle.history.proofs.Waits.{reserve-keeps, decId}
 use Rattle.history.proofs.Rows.{Shows, finish-tidy, reserve-tidy, strokes-of, foot-shows, head-meets, row-keeps, row-moves, reserve-stays, reserve-shows}

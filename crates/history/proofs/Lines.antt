@@ -11,12 +11,13 @@ use Rattle.render.specs.declared.render.PadLine.{PadLine}
 use Rattle.render.specs.declared.render.PadLine.the-variants as pad
 use Rattle.render.specs.declared.types.RowShape.{RowShape}
 use Rattle.render.specs.Lines.{preNodeLine, postAncestryLine}
-use Rattle.prefix_lines.specs.declared.Renderer.{Renderer}
-use Rattle.prefix_lines.specs.declared.types.Line.{Line}
-use Rattle.prefix_lines.specs.declared.types.Line.the-variants.{PreNode, Node, PostNode, Link, SecondLink, Term, SecondTerm, Ancestry, PostAncestry}
-use Rattle.prefix_lines.specs.PrefixLines.{PrefixLine, letter, isPresent, keep, lineOf, lines}
-use Rattle.prefix_lines.specs.Row.{rowOf}
-use Rattle.prefix_lines.proofs.Alike.{stroke, pads-alike}
+use Rattle.glyphs.specs.declared.Renderer.{Renderer}
+use Rattle.glyphs.specs.declared.types.Line.{Line}
+use Rattle.glyphs.specs.declared.types.Line.the-variants.{PreNode, Node, PostNode, Link, SecondLink, Term, SecondTerm, Ancestry, PostAncestry}
+use Rattle.glyphs.specs.Cells.{PrefixLine, isPresent, keep, lineOf, lines}
+use Rattle.glyphs.specs.Row.{rowOf}
+use Rattle.glyphs.proofs.Alike.{stroke, pads-alike}
+use Rattle.prefix_lines.specs.PrefixLines.{letter}
 use Rattle.history.specs.Demand3.{Stroke, Blank, Dashed, Solid}
 use Rattle.history.specs.Ours.{strokeOf, lineOfKind, headLine, footLine}
 

@@ -8,10 +8,10 @@ use mathlib.Core.Option.{Option, none, some, Option·none-ne-some, Option·some-
 use native.Mathlib.Omega.{arith}
 use Rattle.column.specs.declared.Column.{Column}
 use Rattle.render.specs.declared.render.Ancestor.the-variants.{Ancestor, Parent}
-use Rattle.row_shape.specs.Shaper.{reserve}
-use Rattle.row_shape.specs.Placing.{place}
+use Rattle.shaper.specs.Shaper.{reserve}
+use Rattle.placing.specs.Placing.{place}
 use Rattle.row_shape.specs.Row.{row}
-use Rattle.row_shape.specs.Marked.{plain}
+use Rattle.marked.specs.Marked.{plain}
 use Rattle.history.specs.Account.{Call, Reserve, Row, Wait, Idle, AsReserved, AsNamed, nobody, account}
 use Rattle.history.specs.Demand3.{KeepsEveryLine}
 use Rattle.history.specs.Wrong.{untouched, blankLater, reversing, unswapping, drawsReserved}

@@ -26,16 +26,19 @@ use Rattle.render.specs.declared.types.DashStyle.{DashStyle}
 use Rattle.render.specs.declared.types.DashStyle.the-variants.{Persistent, Once}
 use Rattle.render.specs.Entries.{entryId}
 use Rattle.render.specs.Lines.{blankCell, cellsOf, nodeToPad, footPad, preNodeLine, postAncestryLine}
-use Rattle.row_shape.specs.Shaper.{View}
-use Rattle.row_shape.specs.Placing.{dense, staggered, unallocated, nodeColumn, head, columnOf, spot, enter, walk, swap, gaveUp, swapped, dashed, Placed, placeAt}
-use Rattle.row_shape.specs.declared.links.Met.{Met}
-use Rattle.row_shape.specs.declared.links.Swap.{Swap}
-use Rattle.row_shape.specs.declared.links.AncestorColumnBounds.{AncestorColumnBounds}
-use Rattle.row_shape.specs.Links.{drawsAt, boundsOf, linked}
-use Rattle.row_shape.specs.Row.{besideNode, padOf, nodeCell, cellOf, cellsFrom, shapeAt}
-use Rattle.row_shape.proofs.Holding.{Where, away, there, findIs, at-vacant, at-staggered, Spot, spotIs, nodeSpot, spot-only, empty-holds, enter-stays, walk-stays, flip, flip-left, flip-else, flip-flip, at-swap, finish, dash, at-finish, ids-kept, finish-stays}
-use Rattle.row_shape.proofs.PlacingLaws.{walk-more}
-use Rattle.row_shape.proofs.RowLaws.{length-cells}
+use Rattle.shaper.specs.Shaper.{View}
+use Rattle.shaper.specs.NodeColumn.{dense, staggered, unallocated, nodeColumn, head}
+use Rattle.placing.specs.Placing.{columnOf, spot, enter, walk, swap, gaveUp, swapped, dashed, Placed, placeAt, drawsAt}
+use Rattle.links.specs.declared.Met.{Met}
+use Rattle.links.specs.declared.Swap.{Swap}
+use Rattle.links.specs.declared.AncestorColumnBounds.{AncestorColumnBounds}
+use Rattle.links.specs.Links.{boundsOf, linked}
+use Rattle.cells.specs.Cells.{besideNode, padOf, cellOf, cellsFrom}
+use Rattle.cells.specs.Inner.{nodeCell}
+use Rattle.row_shape.specs.Row.{shapeAt}
+use Rattle.marked.proofs.Holding.{Where, away, there, findIs, at-vacant, at-staggered, Spot, spotIs, nodeSpot, spot-only, empty-holds, enter-stays, walk-stays, flip, flip-left, flip-else, flip-flip, at-swap, finish, dash, at-finish, ids-kept, finish-stays}
+use Rattle.placing.proofs.PlacingLaws.{walk-more}
+use Rattle.cells.proofs.CellLaws.{length-cells}
 use Rattle.history.specs.Account.{Call, Reserve, Row, Wait, Idle, AsReserved, AsNamed, Waiting, named, waitsAfter}
 use Rattle.history.specs.Demand3.{Stroke, Blank, Dashed, Solid, Holds, waitOf, Wait-in, Tidy, OneEntry, cell, isStroke, solid, overNode}
 use Rattle.history.proofs.Lines.{padStroke}

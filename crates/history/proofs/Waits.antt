@@ -18,9 +18,9 @@ use Rattle.column.proofs.Positions.{at-put-same, at-put-other}
 use Rattle.render.specs.declared.render.Ancestor.{Ancestor as Entry}
 use Rattle.render.specs.declared.render.Ancestor.the-variants.{Ancestor as Indirect, Parent as Direct, Anonymous}
 use Rattle.render.specs.Entries.{entryId}
-use Rattle.row_shape.specs.Shaper.{reserved, reservedIn}
-use Rattle.row_shape.specs.Placing.{columnOf, spot, enter, walk}
-use Rattle.row_shape.proofs.Holding.{Where, away, there, findIs, at-vacant, Spot, taken, free, spotIs, spot-only, empty-holds, merge-empty, spot-id}
+use Rattle.shaper.specs.Shaper.{reserved, reservedIn}
+use Rattle.placing.specs.Placing.{columnOf, spot, enter, walk}
+use Rattle.marked.proofs.Holding.{Where, away, there, findIs, at-vacant, Spot, taken, free, spotIs, spot-only, empty-holds, merge-empty, spot-id}
 use Rattle.history.specs.Account.{Call, Reserve, Row, Wait, Idle, AsReserved, AsNamed, Waiting, names, named, unlessWaiting, waitsAfter}
 use Rattle.history.specs.Demand3.{Holds, waitOf, Wait-in}
 

@@ -5,14 +5,15 @@ use mathlib.Core.List.{List, [], _∷_, map}
 use lib.Dec.{eqb}
 use Rattle.column.specs.declared.Column.{Column}
 use Rattle.render.specs.declared.types.RowShape.{RowShape}
-use Rattle.row_shape.specs.Shaper.{View, reserve}
+use Rattle.shaper.specs.Shaper.{View, reserve}
 use Rattle.row_shape.specs.Row.{RowReply, row, noShape}
-use Rattle.row_shape.specs.Marked.{rowOf}
-use Rattle.prefix_lines.specs.declared.Renderer.{Renderer}
-use Rattle.prefix_lines.specs.declared.types.Choice.{Choice}
-use Rattle.prefix_lines.specs.declared.types.Choice.the-variants as choice
-use Rattle.prefix_lines.specs.declared.types.Line.the-variants.{PreNode, PostAncestry}
-use Rattle.prefix_lines.specs.PrefixLines.{PrefixLine, letter, lines}
+use Rattle.marked.specs.Marked.{rowOf}
+use Rattle.glyphs.specs.declared.Renderer.{Renderer}
+use Rattle.glyphs.specs.declared.types.Choice.{Choice}
+use Rattle.glyphs.specs.declared.types.Choice.the-variants as choice
+use Rattle.glyphs.specs.declared.types.Line.the-variants.{PreNode, PostAncestry}
+use Rattle.glyphs.specs.Cells.{PrefixLine, lines}
+use Rattle.prefix_lines.specs.PrefixLines.{letter}
 use Rattle.history.specs.Account.{Call, Reserve, Row}
 use Rattle.history.specs.Demand3.{Stroke, Blank, Dashed, Solid, Other, Machine}
 

@@ -5,9 +5,9 @@ use mathlib.Core.List.{List, [], _∷_, map, reverse}
 use Rattle.column.specs.declared.Column.{Column}
 use Rattle.column.specs.declared.Column.the-variants.{Empty, Blocked, Reserved, Ancestor, Parent}
 use Rattle.column.specs.Columns.{reset}
-use Rattle.row_shape.specs.Shaper.{View, isNothing, withColumns}
-use Rattle.row_shape.specs.Placing.{place}
-use Rattle.prefix_lines.specs.declared.Renderer.the-variants.{Curved}
+use Rattle.shaper.specs.Shaper.{View, isNothing, withColumns}
+use Rattle.placing.specs.Placing.{place}
+use Rattle.glyphs.specs.declared.Renderer.the-variants.{Curved}
 use Rattle.history.specs.Account.{Call, Reserve, Row}
 use Rattle.history.specs.Demand3.{Stroke, Blank, Dashed, Solid, Machine}
 use Rattle.history.specs.Ours.{refuses, after, ours}

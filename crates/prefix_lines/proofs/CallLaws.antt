@@ -1,29 +1,29 @@
 -- Laws of the renderer call: its bytes line by line, its answers, when it accepts, and how much it can write.
 use mathlib.Core.Path.{_≡_, refl, ap, _∙_, fun-ext}
-use mathlib.Core.Bool.{Bool, true, false, cond, _&&_, _||_}
+use mathlib.Core.Bool.{Bool, true, false, cond, _||_}
 use mathlib.Core.List.{List, [], _∷_, _++_, map}
-use Prim.Native.Nat.{ℕ, zero, suc, _+_, _*_, _<_, _≤_, zero-le}
+use Prim.Native.Nat.{ℕ, _+_, _*_, _<_, _≤_}
 use native.Mathlib.Omega.{arith}
-use lib.Dec.{ltb, leb}
-use lib.ListN.{length, getD, length-take}
-use borrow.Author.Tests.{lt-ltb, le-ltb, leb-true}
+use lib.Dec.{ltb}
+use lib.ListN.{length, length-take}
+use borrow.Author.Tests.{lt-ltb, le-ltb}
 use Rattle.column.specs.Columns.{columnLimit}
-use Rattle.render.specs.declared.types.Cell.{Cell}
 use Rattle.render.specs.declared.types.RowShape.{RowShape}
 use Rattle.render.specs.Lines.{cellsOf}
-use Rattle.prefix_lines.specs.declared.Renderer.{Renderer}
-use Rattle.prefix_lines.specs.declared.Renderer.the-variants.{Ascii, AsciiLarge, Square, Curved, Dec}
+use Rattle.glyphs.specs.declared.Renderer.{Renderer}
+use Rattle.glyphs.specs.declared.types.Line.{Line}
+use Rattle.glyphs.specs.declared.types.Row.{Row}
+use Rattle.glyphs.specs.Characters.{newline}
+use Rattle.glyphs.specs.Inner.{entry, Draws, cellBytes}
+use Rattle.glyphs.specs.Joins.{joins, over}
+use Rattle.glyphs.specs.Cells.{allLines, isPresent, keep, choiceOf, lineOf, glyphsOf, bytesOf}
+use Rattle.glyphs.specs.Row.{rowOf}
+use Rattle.glyphs.proofs.CellLaws.{joins-from}
+use Rattle.glyphs.proofs.JoinLaws.{joins-short}
+use Rattle.glyphs.proofs.TableLaws.{glyph-short}
 use Rattle.prefix_lines.specs.declared.Written.{Written}
-use Rattle.prefix_lines.specs.declared.types.Choice.{Choice}
-use Rattle.prefix_lines.specs.declared.types.Line.{Line}
-use Rattle.prefix_lines.specs.declared.types.Place.{Place}
-use Rattle.prefix_lines.specs.declared.types.Row.{Row}
-use Rattle.prefix_lines.specs.Characters.{newline}
-use Rattle.prefix_lines.specs.Inner.{entry, Draws, cellBytes, lineText, linesText}
-use Rattle.prefix_lines.specs.Joins.{joins, over}
-use Rattle.prefix_lines.specs.PrefixLines.{allLines, letter, isPresent, keep, choiceOf, lineOf, setOf, glyphsOf, bytesOf, joinsFrom, lineBytes, linesBytes, refusal, answerOf, nextPrefixLines}
-use Rattle.prefix_lines.specs.Row.{rowOf, firstLink, places}
-use Rattle.prefix_lines.proofs.JoinLaws.{joins-short}
+use Rattle.prefix_lines.specs.Inner.{lineText, linesText}
+use Rattle.prefix_lines.specs.PrefixLines.{letter, lineBytes, linesBytes, refusal, answerOf, nextPrefixLines}
 use Rattle.prefix_lines.proofs.LineLaws.{line-within}
 
 -- ---- the bytes of the lines that a row has, line by line over all nine
@@ -35,11 +35,6 @@ joins-kept t m f h e (x ∷ xs) = rw (e x) (go (t x) (joins-kept t m f h e xs))
     go : (b : Bool) → joins h xs ≡ joins f (map m (keep t xs)) → cond b (f (m x)) [] ++ joins h xs ≡ joins f (map m (cond b (x ∷ keep t xs) (keep t xs)))
     go true r = ap (λ (l : List ℕ). f (m x) ++ l) r
     go false r = r
-
-joins-from : (b : ℕ → Choice → List ℕ) (f : Place → Choice) (i : ℕ) (cs : List Cell)
-    → joins (λ (p : Place). b (p .index) (f p)) (places i cs) ≡ joinsFrom b i (map f (places i cs))
-joins-from b f i [] = refl
-joins-from b f i (c ∷ cs) = ap (λ (l : List ℕ). b i (f (record { index = i; cell = c; next = firstLink cs })) ++ l) (joins-from b f (suc i) cs)
 
 module _ (q : Renderer) (g : RowShape) (mark : ℕ) where
   line-text : (l : Line) → lineText (glyphsOf q) q (rowOf g) mark (cellsOf g) l
@@ -96,31 +91,6 @@ accepts g q mark out a b k r =
     rw (le-ltb mark 0x21 a, le-ltb 0x7e mark b, le-ltb columnLimit (g .width) k, le-ltb (length out) (length (linesBytes q g mark)) r)
 
 -- ---- how much a call can write
-and-left : (a b : Bool) → a && b ≡ true → a ≡ true
-and-left true b e = refl
-and-left false b e = e
-
-and-right : (a b : Bool) → a && b ≡ true → b ≡ true
-and-right true b e = e
-and-right false b e = cc
-
-abbrev shorts : List (List ℕ) → Bool
-shorts [] = true
-shorts (x ∷ xs) = leb (length x) 8 && shorts xs
-
-set-short : (s : List (List ℕ)) (n : ℕ) → shorts s ≡ true → length (getD s n []) ≤ 8
-set-short [] n e = zero-le
-set-short (x ∷ xs) zero e = leb-true (length x) 8 (and-left (leb (length x) 8) (shorts xs) e)
-set-short (x ∷ xs) (suc n) e = set-short xs n (and-right (leb (length x) 8) (shorts xs) e)
-
-glyph-short : (q : Renderer) (n : ℕ) → length (glyphsOf q n) ≤ 8
-unfolding glyphsOf
-glyph-short Ascii n = set-short (setOf Ascii) n refl
-glyph-short AsciiLarge n = set-short (setOf AsciiLarge) n refl
-glyph-short Square n = set-short (setOf Square) n refl
-glyph-short Curved n = set-short (setOf Curved) n refl
-glyph-short Dec n = set-short (setOf Dec) n refl
-
 -- nine lines, each of eight bytes a cell, a letter and an end
 pub sized : (q : Renderer) (g : RowShape) (mark : ℕ) → length (linesBytes q g mark) ≤ 9 * (8 * g .width + 2)
 sized q g mark = rw (← lines-text q g mark) (omega (arith, joins-short (lineText (glyphsOf q) q (rowOf g) mark (cellsOf g)) (8 * g .width + 2) within allLines))

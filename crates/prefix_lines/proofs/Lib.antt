@@ -1,7 +1,2 @@
-pub mod Alike
 pub mod CallLaws
-pub mod JoinLaws
 pub mod LineLaws
-pub mod OverLaws
-pub mod PlaceLaws
-pub mod TableLaws

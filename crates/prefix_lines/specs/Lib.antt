@@ -1,10 +1,2 @@
-pub mod Ascii
-pub mod AsciiLarge
-pub mod BoxDrawing
-pub mod Characters
-pub mod GlyphSets
 pub mod Inner
-pub mod Joins
-pub mod Marks
 pub mod PrefixLines
-pub mod Row

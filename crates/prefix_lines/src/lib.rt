@@ -1,55 +1,22 @@
 // The renderer call, after row_shape_to_prefix_lines.rs.
 ghost use mathlib.Core.Path.{_≡_};
-ghost use Rattle.prefix_lines.specs.Inner.{Draws};
 ghost use Rattle.prefix_lines.specs.PrefixLines.{answerOf, nextPrefixLines};
 
-mod ascii;
-mod ascii_large;
-mod box_drawing;
-mod choice;
 mod length;
-mod row;
-mod types;
 mod writer;
 
-use box_drawing::TABLE;
 use column::COLUMN_LIMIT;
+use glyphs::Renderer;
+use glyphs::glyph_table;
+use glyphs::row_of;
 use length::lines_length;
 use render::RowShape;
-use row::row_of;
-pub use types::Choice;
-pub use types::Glyph;
-pub use types::Line;
-pub use types::Place;
-pub use types::Row;
 use writer::write_lines;
-
-// The five renderers.
-pub enum Renderer {
-    Ascii,
-    AsciiLarge,
-    Square,
-    Curved,
-    Dec,
-}
 
 // A renderer call's answer beside the output: the refusal, 0 for none, and the count of bytes written.
 pub struct Written {
     pub refusal: u8,
     pub length: usize,
-}
-
-// The glyph table of a renderer; the ASCII ones have no glyphs.
-fn glyph_table(renderer: Renderer) -> [u8; TABLE]
-    ensures { λ r. ⌜ Draws r renderer ⌝ }
-{
-    match renderer {
-        Renderer::Ascii => [0; TABLE],
-        Renderer::AsciiLarge => [0; TABLE],
-        Renderer::Square => box_drawing::SQUARE_GLYPHS,
-        Renderer::Curved => box_drawing::CURVED_GLYPHS,
-        Renderer::Dec => box_drawing::DEC_GLYPHS,
-    }
 }
 
 // A refused call's answer.

@@ -3,22 +3,23 @@ ghost use mathlib.Core.Path.{_≡_};
 ghost use Prim.Native.Nat.{_≤_};
 ghost use lib.ListN.{length, take};
 ghost use Rattle.column.specs.Columns.{columnLimit};
-ghost use Rattle.prefix_lines.specs.Inner.{cellsText, lineText, linesText, entry};
-ghost use Rattle.prefix_lines.specs.Joins.{over};
+ghost use Rattle.glyphs.specs.Inner.{cellsText, entry};
+ghost use Rattle.glyphs.specs.Joins.{over};
+ghost use Rattle.prefix_lines.specs.Inner.{lineText, linesText};
 ghost use Rattle.prefix_lines.specs.PrefixLines.{letter};
-use crate::Renderer;
-use crate::box_drawing::TABLE;
-use crate::choice::cell_glyph;
-use crate::choice::next_index;
-use crate::choice::next_link;
-use crate::row::LINES;
-use crate::row::is_present;
-use crate::row::line_at;
-use crate::types::Line;
-use crate::types::Place;
-use crate::types::Row;
-use crate::types::write_glyph;
 use column::COLUMN_LIMIT;
+use glyphs::LINES;
+use glyphs::Line;
+use glyphs::Place;
+use glyphs::Renderer;
+use glyphs::Row;
+use glyphs::TABLE;
+use glyphs::cell_glyph;
+use glyphs::is_present;
+use glyphs::line_at;
+use glyphs::next_index;
+use glyphs::next_link;
+use glyphs::write_glyph;
 use render::Cell;
 
 // Writes a line's cells, and gives the count of their bytes.
@@ -50,7 +51,7 @@ fn write_cells(
             next,
         };
         let glyph = cell_glyph(table, renderer, row, mark, line, place);
-        at += write_glyph(&mut out[at..], glyph);
+        at += write_glyph(&mut out[at..], glyph, glyph.length);
         i += 1;
     }
     at

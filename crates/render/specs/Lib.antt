@@ -1,3 +1,4 @@
+pub mod Refusals
 pub mod Entries
 pub mod Link
 pub mod Lines

@@ -18,8 +18,8 @@ use column::Column;
 use column::Found;
 use column::Slot;
 use render::RowShape;
-use row_shape::HEIGHT_LIMIT;
-use row_shape::Shaper;
+use shaper::HEIGHT_LIMIT;
+use shaper::Shaper;
 
 // How many fields the shaper's line has in front of the columns.
 const FIELDS: u32 = 5;

@@ -9,7 +9,7 @@ use column::COLUMN_LIMIT;
 use column::Column;
 use column::Found;
 use column::Slot;
-use prefix_lines::Renderer;
+use glyphs::Renderer;
 use render::Ancestor;
 use render::Cell;
 use render::DashStyle;
@@ -22,7 +22,7 @@ use render::Options;
 use render::PadLine;
 use render::RowShape;
 use render::Style;
-use row_shape::NewNode;
+use width::NewNode;
 
 // The bytes of a slot: its kind and its id.
 const SLOT: usize = 5;

@@ -1,5 +1,5 @@
 // The page: the output that a renderer call writes to. It is lent to every command, and filled anew before each call.
-use prefix_lines::Renderer;
+use glyphs::Renderer;
 use prefix_lines::Written;
 use render::RowShape;
 

@@ -7,8 +7,8 @@ use crate::page::Page;
 use render::Entries;
 use render::Options;
 use render::RowShape;
-use row_shape::HEIGHT_LIMIT;
-use row_shape::Shaper;
+use shaper::HEIGHT_LIMIT;
+use shaper::Shaper;
 
 // What the commands work on.
 pub(crate) struct State {
@@ -50,7 +50,7 @@ impl State {
         let shaper = refused.shaper;
         let mut entries = Entries::none();
         entries.too_many = true;
-        let refused_row = shaper.next_row_shape(0, entries);
+        let refused_row = row_shape::next_row_shape(shaper, 0, entries);
         let shape = refused_row.shape;
         State { shaper, shape }
     }
@@ -94,7 +94,11 @@ fn reserve(payload: &[u8], state: State) -> Reply {
 // `W`: node (at 0), entries (4).
 fn row(payload: &[u8], state: State) -> Reply {
     let before = state.shaper;
-    let given = before.next_row_shape(input::u32_at(payload, 0), codes::entries_at(payload, 4));
+    let given = row_shape::next_row_shape(
+        before,
+        input::u32_at(payload, 0),
+        codes::entries_at(payload, 4),
+    );
     let answer = Answer::Row(given.refusal);
     let shaper = given.shaper;
     let shape = given.shape;
@@ -109,7 +113,7 @@ fn row(payload: &[u8], state: State) -> Reply {
 fn width(payload: &[u8], state: State) -> Reply {
     let shaper = state.shaper;
     let node = codes::new_node_at(payload, 0);
-    let given = shaper.width(node, codes::optional_entries_at(payload, 5));
+    let given = width::width(shaper, node, codes::optional_entries_at(payload, 5));
     let answer = Answer::Width(given.refusal, given.width as u64);
     Reply { answer, state }
 }

@@ -1,9 +1,2 @@
-pub mod Holding
-pub mod Laws
-pub mod LinkLaws
 pub mod NextRow
-pub mod PlacingLaws
-pub mod Reserving
 pub mod RowLaws
-pub mod Ruled
-pub mod WidthLaws

@@ -1,9 +1,3 @@
-pub mod Refusals
-pub mod Shaper
-pub mod Placing
-pub mod Links
 pub mod Inner
 pub mod Row
-pub mod Lines
-pub mod Width
-pub mod Marked
+pub mod Promises

@@ -1,94 +1,36 @@
 -- The row call: the shape that it gives, cell by cell, and the shaper after it.
-use Prim.Native.Nat.{ℕ, zero, suc, _-_, _≤_}
-use mathlib.Core.Path.{_≡_}
-use mathlib.Core.Bool.{Bool, true, false, cond, not, _&&_, _||_}
-use mathlib.Core.List.{List, [], _∷_, map, _++_}
+use Prim.Native.Nat.{ℕ, zero, suc, _-_}
+use mathlib.Core.Bool.{Bool, false, not, _&&_, _||_}
+use mathlib.Core.List.{List, [], _∷_, _++_}
 use lib.Dec.{ltb, leb, eqb}
 use lib.ListN.{length, replicate}
-use Rattle.column.specs.declared.Column.{Column}
-use Rattle.column.specs.declared.Column.the-variants.{Empty, Blocked, Reserved, Ancestor, Parent}
 use Rattle.column.specs.declared.Found.{Found}
-use Rattle.column.specs.declared.Found.the-variants.{At, Nothing}
-use Rattle.column.specs.Columns.{columnLimit, isParent, find, orElse, at, reset, SpareEmpty}
+use Rattle.column.specs.declared.Found.the-variants.{At}
+use Rattle.column.specs.Columns.{columnLimit, isParent, find, orElse, at, reset}
 use Rattle.render.specs.declared.render.Ancestor.{Ancestor as Entry}
-use Rattle.render.specs.declared.render.Entries.{Entries}
-use Rattle.render.specs.declared.render.NodeLine.{NodeLine}
-use Rattle.render.specs.declared.render.NodeLine.the-variants as node
-use Rattle.render.specs.declared.render.PadLine.{PadLine}
-use Rattle.render.specs.declared.render.PadLine.the-variants as pad
-use Rattle.render.specs.declared.render.LinkLine.{LinkLine}
-use Rattle.render.specs.declared.render.Marks.{Marks}
-use Rattle.render.specs.declared.types.Cell.{Cell}
 use Rattle.render.specs.declared.types.RowShape.{RowShape}
-use Rattle.render.specs.Entries.{entryLimit, isAnonymous, listed, tooMany}
-use Rattle.render.specs.Link.{noMarks, linkOf}
+use Rattle.render.specs.Entries.{isAnonymous}
 use Rattle.render.specs.Lines.{blankCell}
-use Rattle.row_shape.specs.declared.Shaper.{Shaper}
-use Rattle.row_shape.specs.declared.RowAnswer.{RowAnswer}
-use Rattle.row_shape.specs.declared.links.Met.{Met}
-use Rattle.row_shape.specs.declared.links.AncestorColumnBounds.{AncestorColumnBounds}
-use Rattle.row_shape.specs.declared.links.Swap.{Swap}
-use Rattle.row_shape.specs.Refusals.{Check, _when_, refusal}
-use Rattle.row_shape.specs.Shaper.{View, viewOf, isNothing, refusedOptions}
-use Rattle.row_shape.specs.Placing.{head, dashed, Placed, place}
-use Rattle.row_shape.specs.Links.{drawsAt, isMet, metAnonymous, boundsOf, isAt, fromNode, withUprights, linked}
+use Rattle.links.specs.declared.Met.{Met}
+use Rattle.links.specs.declared.AncestorColumnBounds.{AncestorColumnBounds}
+use Rattle.links.specs.declared.Swap.{Swap}
+use Rattle.render.specs.Refusals.{Check, _when_, refusal}
+use Rattle.shaper.specs.Shaper.{View, isNothing, refusedOptions}
+use Rattle.shaper.specs.NodeColumn.{head}
+use Rattle.cells.specs.Cells.{cellOf, cellsFrom}
+use Rattle.placing.specs.Placing.{dashed, Placed, place, drawsAt}
+use Rattle.links.specs.Links.{boundsOf, isAt, linked}
 
--- ---- the lines
-
--- `column_to_node_line`, `column_to_pad_line`
-abbrev pub besideNode : Column → NodeLine
-besideNode Empty = node.Blank
-besideNode Blocked = node.Blank
-besideNode (Reserved n) = node.Blank
-besideNode (Ancestor n) = node.Ancestor
-besideNode (Parent n) = node.Parent
-
-abbrev pub padOf : Column → PadLine
-padOf Empty = pad.Blank
-padOf Blocked = pad.Blank
-padOf (Reserved n) = pad.Blank
-padOf (Ancestor n) = pad.Ancestor
-padOf (Parent n) = pad.Parent
-
--- f of each place from i on, n of them
-abbrev pub cellsFrom {ℓ} : {A : Type ℓ} → (ℕ → A) → ℕ → ℕ → List A
-cellsFrom f i zero = []
-cellsFrom f i (suc n) = f i ∷ cellsFrom f (suc i) n
-
-abbrev pub nodeCell : ℕ → ℕ → Column → NodeLine
-nodeCell i c b = cond (eqb i c) node.Node (besideNode b)
-
--- the cells of an absent link line have no mark
-abbrev pub linkCell : Bool → Marks → LinkLine
-linkCell need m = cond need (linkOf m) noMarks
-
--- one column of the shape: need says whether there is a link line, m draws in the column, b and s are the column before the entries and after the swap
-abbrev pub cellOf : Bool → AncestorColumnBounds → Swap → ℕ → Met → Column → Column → Cell
-cellOf need r w i m b s =
-    let own : Marks = fromNode r w i m in
-    record {
-      node = nodeCell i (r .target) b;
-      link = linkCell need (withUprights (isAt (w .«given_up») i) b own);
-      «link_from_node» = linkCell need own;
-      term = metAnonymous m;
-      ancestry = padOf s;
-      parent = isMet m;
-    }
-
+-- whether one of a list passes a test, as in "no Anonymous entry"
 abbrev pub anyOf {ℓ} : {A : Type ℓ} → (A → Bool) → List A → Bool
 anyOf t [] = false
 anyOf t (a ∷ l) = t a || anyOf t l
 
-abbrev pub isNil {ℓ} : {A : Type ℓ} → List A → Bool
-isNil [] = true
-isNil (a ∷ l) = false
-
 -- "The separator flag: no column held before, height at most 1, no staggering, same column as the previous node, no Anonymous entry."
-abbrev pub separator : View → ℕ → ℕ → List Entry → Bool
-separator v n c es =
-    isNothing (find n (v .columns)) && (leb (v .height) 1 && (not (v .stagger) && (isAt (v .previous) c && not (anyOf isAnonymous es))))
+abbrev pub separator : View → Found → ℕ → Bool → Bool
+separator v existing c terms = isNothing existing && (leb (v .height) 1 && (not (v .stagger) && (isAt (v .previous) c && not terms)))
 
--- "A shape has one width for all its lines." Cells past it are blank.
+-- "A shape has one width for all its lines." "Root: no parents. Merge: more than one entry, repeats counted." "Its swap strokes are solid exactly if that column was Parent before this row." Cells past the width are blank.
 abbrev pub shapeAt : View → ℕ → List Entry → Placed → RowShape
 shapeAt v n es p =
     let c : ℕ = p .column in
@@ -99,10 +41,10 @@ shapeAt v n es p =
     record {
       node = n;
       merge = ltb 1 (length es);
-      «separator_line» = separator v n c es;
+      «separator_line» = separator v (find n (v .columns)) c (anyOf isAnonymous es);
       style = v .style;
       «is_head» = head (find n (v .columns)) (v .columns);
-      «is_root» = isNil es;
+      «is_root» = eqb (length es) 0;
       «node_column» = c;
       width = w;
       «link_line» = linked r s;
@@ -139,33 +81,15 @@ pub record RowReply : Type 0 where
 abbrev pub rowChecks : Bool → Placed → List Check
 rowChecks many p = (3 when many) ∷ (4 when ltb columnLimit (length (p .walked))) ∷ []
 
--- "`reset` ends every row."
+-- the shaper after a row: "`reset` ends every row."
 abbrev pub rowAfter : View → Placed → View
-rowAfter v p =
-    record {
-      columns = reset (dashed (v .style .«dash_style») (p .settled));
-      previous = At (p .column);
-      height = v .height;
-      stagger = v .stagger;
-      style = v .style;
-    }
+rowAfter v p = record { columns = reset (dashed (v .style .«dash_style») (p .settled)); previous = At (p .column); height = v .height; stagger = v .stagger; style = v .style }
 
+-- "A refusal gives its number, .. a shape without cells .., and changes no state"
 abbrev pub rowAnswer : ℕ → View → ℕ → List Entry → Placed → RowReply
 rowAnswer zero v n es p = record { refusal = 0; shape = shapeAt v n es p; view = rowAfter v p }
 rowAnswer (suc k) v n es p = record { refusal = suc k; shape = noShape; view = v }
 
--- many says that there are too many entries
+-- the row call (`next_row_shape`), where many says that there are too many entries
 unfoldable pub row : View → ℕ → Bool → List Entry → RowReply
 row v n many es = rowAnswer (refusal (rowChecks many (place v n es))) v n es (place v n es)
-
--- what the row call promises: what the definition says; a refusal leaves the struct itself as it was; else the raw count is at most 64;
--- the options stay; slots past the count stay Empty if they were
-abbrev pub rowReplyOf : RowAnswer → RowReply
-rowReplyOf r = record { refusal = r .refusal; shape = r .shape; view = viewOf (r .shaper) }
-
-pub record Rows (s : Shaper) (n : ℕ) (es : Entries) (r : RowAnswer) : Type 0 where
-  pub reply : rowReplyOf r ≡ row (viewOf s) n (tooMany es) (listed es)
-  pub refused : (r .refusal ≡ 0 → ⊥) → r .shaper ≡ s
-  pub fits : r .refusal ≡ 0 → r .shaper .count ≤ columnLimit
-  pub options : r .shaper .options ≡ s .options
-  pub rest : SpareEmpty (s .count) (s .slots) → SpareEmpty (r .shaper .count) (r .shaper .slots)

@@ -7,8 +7,8 @@ use borrow.Author.Needs.{needs}
 use lib.ListN.{length, drop}
 use Rattle.render.specs.Entries.{entryLimit, isAnonymous}
 use Rattle.row_shape.specs.Row.{anyOf}
-use Rattle.row_shape.proofs.Laws.{entries-long}
-use Rattle.row_shape.proofs.PlacingLaws.{given, given-next, given-end}
+use Rattle.shaper.proofs.Laws.{entries-long}
+use Rattle.placing.proofs.PlacingLaws.{given, given-next, given-end}
 use Rattle.row_shape.proofs.RowLaws.{any-hit, any-next, any-none}
 
 abbrev Inv-loop : tie.InvT-loop

@@ -4,13 +4,13 @@ use mathlib.Core.Path.{_≡_}
 use native.Mathlib.Omega.{arith}
 use lib.ListN.{length, take}
 use Rattle.column.specs.Columns.{columnLimit}
-use Rattle.prefix_lines.specs.Inner.{entry, cellBytes}
-use Rattle.prefix_lines.specs.Joins.{joins}
-use Rattle.prefix_lines.specs.Row.{places}
-use Rattle.prefix_lines.proofs.JoinLaws.{next-length, end-length, so-short}
-use Rattle.prefix_lines.proofs.LineLaws.{noPlace, in-row, cell-small, cell-count}
-use Rattle.prefix_lines.proofs.PlaceLaws.{length-row}
-use Rattle.prefix_lines.proofs.TableLaws.{entry-short, cell-short}
+use Rattle.glyphs.specs.Inner.{entry, cellBytes}
+use Rattle.glyphs.specs.Joins.{joins}
+use Rattle.glyphs.specs.Row.{places}
+use Rattle.glyphs.proofs.JoinLaws.{next-length, end-length, so-short}
+use Rattle.glyphs.proofs.CellLaws.{noPlace, in-row, cell-small, cell-count}
+use Rattle.glyphs.proofs.PlaceLaws.{length-row}
+use Rattle.glyphs.proofs.TableLaws.{entry-short, cell-short}
 use Rattle.prefix_lines.proofs.length.cells_length.Statement.{statement}
 use Rattle.prefix_lines.proofs.length.cells_length.Tie as tie
 

@@ -1,9 +1,10 @@
 use mathlib.Core.Path.{sym, _∙_}
 use native.Mathlib.Omega.{arith}
 use lib.ListN.{take, length-take}
-use Rattle.prefix_lines.specs.Inner.{entry}
-use Rattle.prefix_lines.proofs.LineLaws.{cells-short, present-length, absent}
-use Rattle.prefix_lines.proofs.TableLaws.{entry-short}
+use Rattle.glyphs.specs.Inner.{entry}
+use Rattle.glyphs.proofs.CellLaws.{cells-short}
+use Rattle.glyphs.proofs.TableLaws.{entry-short}
+use Rattle.prefix_lines.proofs.LineLaws.{present-length, absent}
 use borrow.Author.Needs.{needs}
 use Rattle.prefix_lines.proofs.length.line_length.Statement.{statement}
 use Rattle.prefix_lines.proofs.length.line_length.Tie as tie

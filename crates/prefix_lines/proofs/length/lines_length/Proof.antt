@@ -4,13 +4,14 @@ use mathlib.Core.Path.{_≡_}
 use native.Mathlib.Omega.{arith}
 use lib.ListN.{length, take}
 use Rattle.column.specs.Columns.{columnLimit}
-use Rattle.prefix_lines.specs.Inner.{entry, lineText}
-use Rattle.prefix_lines.specs.Joins.{joins}
-use Rattle.prefix_lines.specs.PrefixLines.{allLines}
-use Rattle.prefix_lines.specs.declared.types.Line.the-variants.{PostAncestry}
-use Rattle.prefix_lines.proofs.JoinLaws.{next-length, end-length, so-short}
+use Rattle.glyphs.specs.Inner.{entry}
+use Rattle.glyphs.specs.Joins.{joins}
+use Rattle.glyphs.specs.Cells.{allLines}
+use Rattle.glyphs.specs.declared.types.Line.the-variants.{PostAncestry}
+use Rattle.glyphs.proofs.JoinLaws.{next-length, end-length, so-short}
+use Rattle.glyphs.proofs.TableLaws.{entry-short}
+use Rattle.prefix_lines.specs.Inner.{lineText}
 use Rattle.prefix_lines.proofs.LineLaws.{line-short}
-use Rattle.prefix_lines.proofs.TableLaws.{entry-short}
 use Rattle.prefix_lines.proofs.length.lines_length.Statement.{statement}
 use Rattle.prefix_lines.proofs.length.lines_length.Tie as tie
 

@@ -1,17 +1,17 @@
 use borrow.Author.Needs.{needs}
-use Prim.Native.Nat.{_≤_, _+_, _-_}
-use mathlib.Core.Path.{_≡_, _∙_}
+use Prim.Native.Nat.{ℕ, _≤_, _+_, _-_}
+use mathlib.Core.Path.{_≡_, ap, _∙_}
 use native.Mathlib.Omega.{arith}
 use lib.ListN.{length, take}
 use Rattle.column.specs.Columns.{columnLimit}
-use Rattle.prefix_lines.specs.Inner.{entry, cellBytes, cellsText}
-use Rattle.prefix_lines.specs.Joins.{joins, over}
-use Rattle.prefix_lines.specs.Row.{places}
-use Rattle.prefix_lines.proofs.JoinLaws.{joins-within, next-length, next-over, end-length, end-over}
-use Rattle.prefix_lines.proofs.LineLaws.{noPlace, in-row, cell-small, cell-count, cell-bytes}
-use Rattle.prefix_lines.proofs.OverLaws.{part-room, part-length}
-use Rattle.prefix_lines.proofs.PlaceLaws.{length-row}
-use Rattle.prefix_lines.proofs.TableLaws.{entry-short}
+use Rattle.glyphs.specs.Inner.{entry, cellBytes, cellsText}
+use Rattle.glyphs.specs.Joins.{joins, over}
+use Rattle.glyphs.specs.Row.{places}
+use Rattle.glyphs.proofs.JoinLaws.{joins-within, next-length, next-over, end-length, end-over}
+use Rattle.glyphs.proofs.CellLaws.{noPlace, in-row, cell-small, cell-count, cell-bytes}
+use Rattle.glyphs.proofs.OverLaws.{part-room, part-length}
+use Rattle.glyphs.proofs.PlaceLaws.{length-row}
+use Rattle.glyphs.proofs.TableLaws.{entry-short}
 use Rattle.prefix_lines.proofs.writer.write_cells.Statement.{statement}
 use Rattle.prefix_lines.proofs.writer.write_cells.Tie as tie
 
@@ -42,6 +42,14 @@ grown c =
     let l = c .before .before .before .before .before .before .loop in
     next-length (cellBytes (entry (a .table .now)) (a .renderer) (a .row) (a .mark) (a .line)) (places 0 (take (a .width) (a .t7))) (l .i) noPlace (in-row (entry (a .table .now)) (a .renderer) (a .row) (a .mark) (a .line) (a .t7) (a .width) (l .i) (l .inv .2) (l .inv .1) (search needs) (c .cell-glyph .result) (c .before .before .before .next-index .ensures) (c .before .next-link .ensures) (c .cell-glyph .ensures)) (l .inv .5)
     (cell-count (entry (a .table .now)) (a .renderer) (a .row) (a .mark) (a .line) (a .t7) (a .width) (l .i) (l .inv .2) (l .inv .1) (search needs) (c .cell-glyph .result) (c .before .before .before .next-index .ensures) (c .before .next-link .ensures) (c .cell-glyph .ensures))
+
+-- so that all of the glyph is written
+written : (c : tie.After-write-glyph Inv-loop μ-loop) → c .write-glyph .result ≡ c .before .before .cell-glyph .result .length
+written c =
+    let a = c .before .before .before .before .before .before .before .before .before .before .args in
+    let l = c .before .before .before .before .before .before .before .before .loop in
+    let small : c .before .before .cell-glyph .result .length ≤ 8 = cell-small (entry (a .table .now)) (a .renderer) (a .row) (a .mark) (a .line) (a .t7) (a .width) (l .i) (l .inv .2) (l .inv .1) (search needs) (c .before .before .cell-glyph .result) (c .before .before .before .before .before .next-index .ensures) (c .before .before .before .next-link .ensures) (c .before .before .cell-glyph .ensures) (entry-short (a .table .now)) in
+    omega (arith, c .write-glyph .ensures .0, part-room (l .out) (l .at), grown (c .before .before), joins-within (cellBytes (entry (a .table .now)) (a .renderer) (a .row) (a .mark) (a .line)) (places 0 (take (a .width) (a .t7))) (l .i + 1))
 
 loop-holds : tie.Need-loop-holds Inv-loop μ-loop
 loop-holds c = search needs
@@ -77,14 +85,12 @@ part-write-glyph-end : tie.Need-part-write-glyph-end Inv-loop μ-loop
 part-write-glyph-end c = search needs
 
 write-glyph-requires : tie.Need-write-glyph-requires Inv-loop μ-loop
-write-glyph-requires c κs = let a = c .before .before .before .before .before .before .before .before .before .args in
-    let l = c .before .before .before .before .before .before .before .loop in
-    (cell-small (entry (a .table .now)) (a .renderer) (a .row) (a .mark) (a .line) (a .t7) (a .width) (l .i) (l .inv .2) (l .inv .1) (search needs) (c .before .cell-glyph .result) (c .before .before .before .before .next-index .ensures) (c .before .before .next-link .ensures) (c .before .cell-glyph .ensures) (entry-short (a .table .now)), omega (arith, part-room (l .out) (l .at), grown (c .before), joins-within (cellBytes (entry (a .table .now)) (a .renderer) (a .row) (a .mark) (a .line)) (places 0 (take (a .width) (a .t7))) (l .i + 1)))
+write-glyph-requires c κs = search needs
 
 add-at : tie.Need-add-at Inv-loop μ-loop
 add-at c = let a = c .before .before .before .before .before .before .before .before .before .before .before .before .args in
     let l = c .before .before .before .before .before .before .before .before .before .before .loop in
-    omega (arith, grown (c .before .before .before .before), joins-within (cellBytes (entry (a .table .now)) (a .renderer) (a .row) (a .mark) (a .line)) (places 0 (take (a .width) (a .t7))) (l .i + 1), c .before .before .write-glyph .ensures .0)
+    omega (arith, grown (c .before .before .before .before), joins-within (cellBytes (entry (a .table .now)) (a .renderer) (a .row) (a .mark) (a .line)) (places 0 (take (a .width) (a .t7))) (l .i + 1), written (c .before .before))
 
 add-i : tie.Need-add-i Inv-loop μ-loop
 add-i c = search needs
@@ -102,9 +108,9 @@ loop-again c = let a = c .before .before .before .before .before .before .before
       l .inv .2,
       l .inv .3,
       part-length (l .out) (w .last .0) (l .at) (w .kept .0) (room g) ∙ l .inv .4,
-      omega (arith, grown g, w .ensures .0),
+      omega (arith, grown g, written (c .before .before)),
       next-over (cellBytes (entry (a .table .now)) (a .renderer) (a .row) (a .mark) (a .line)) (places 0 (take (a .width) (a .t7))) (l .i) noPlace _ (in-row (entry (a .table .now)) (a .renderer) (a .row) (a .mark) (a .line) (a .t7) (a .width) (l .i) (l .inv .2) (l .inv .1) (search needs) (c .before .before .before .before .cell-glyph .result) (c .before .before .before .before .before .before .before .next-index .ensures) (c .before .before .before .before .before .next-link .ensures) (c .before .before .before .before .cell-glyph .ensures)) (l .inv .6) (l .inv .5)
-          (cell-bytes (entry (a .table .now)) (a .renderer) (a .row) (a .mark) (a .line) (a .t7) (a .width) (l .i) (l .inv .2) (l .inv .1) (search needs) (c .before .before .before .before .cell-glyph .result) (c .before .before .before .before .before .before .before .next-index .ensures) (c .before .before .before .before .before .next-link .ensures) (c .before .before .before .before .cell-glyph .ensures)) (w .ensures .1),
+          (ap (λ (n : ℕ). take n (g .cell-glyph .result .bytes)) (written (c .before .before)) ∙ cell-bytes (entry (a .table .now)) (a .renderer) (a .row) (a .mark) (a .line) (a .t7) (a .width) (l .i) (l .inv .2) (l .inv .1) (search needs) (c .before .before .before .before .cell-glyph .result) (c .before .before .before .before .before .before .before .next-index .ensures) (c .before .before .before .before .before .next-link .ensures) (c .before .before .before .before .cell-glyph .ensures)) (w .ensures .1),
     )
 
 same-length : tie.Need-same-length Inv-loop μ-loop

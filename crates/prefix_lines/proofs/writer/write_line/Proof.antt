@@ -4,11 +4,11 @@ use mathlib.Core.Bool.{true}
 use mathlib.Core.List.{_++_}
 use native.Mathlib.Omega.{arith}
 use lib.ListN.{length, take, drop, set, length-set}
-use Rattle.prefix_lines.specs.Characters.{newline}
-use Rattle.prefix_lines.specs.Inner.{entry, cellsText}
-use Rattle.prefix_lines.specs.PrefixLines.{isPresent}
+use Rattle.glyphs.specs.Characters.{newline}
+use Rattle.glyphs.specs.Inner.{entry, cellsText}
+use Rattle.glyphs.specs.Cells.{isPresent}
+use Rattle.glyphs.proofs.OverLaws.{part-room, part-length}
 use Rattle.prefix_lines.proofs.LineLaws.{absent, present-length, line-written}
-use Rattle.prefix_lines.proofs.OverLaws.{part-room, part-length}
 use borrow.Author.Needs.{needs}
 use Rattle.prefix_lines.proofs.writer.write_line.Statement.{statement}
 use Rattle.prefix_lines.proofs.writer.write_line.Tie as tie

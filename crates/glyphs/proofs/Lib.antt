@@ -1,0 +1,6 @@
+pub mod Alike
+pub mod CellLaws
+pub mod JoinLaws
+pub mod OverLaws
+pub mod PlaceLaws
+pub mod TableLaws

@@ -1,0 +1,59 @@
+use Rattle.glyphs.specs.Ascii.{connection}
+use borrow.Author.Needs.{needs}
+use Rattle.glyphs.proofs.ascii.link_connection.Statement.{statement}
+use Rattle.glyphs.proofs.ascii.link_connection.Tie as tie
+
+intersects-requires : tie.Need-intersects-requires
+intersects-requires c κs = search needs
+
+intersects-requires-2 : tie.Need-intersects-requires-2
+intersects-requires-2 c κs = search needs
+
+intersects-requires-3 : tie.Need-intersects-requires-3
+intersects-requires-3 c κs = search needs
+
+intersects-requires-4 : tie.Need-intersects-requires-4
+intersects-requires-4 c κs = search needs
+
+intersects-requires-5 : tie.Need-intersects-requires-5
+intersects-requires-5 c κs = search needs
+
+returns : tie.Need-returns
+unfolding connection
+returns c = rw (← c .before .intersects .ensures, c .if1 .taken)
+
+returns-2 : tie.Need-returns-2
+unfolding connection
+returns-2 c = rw (← c .before .before .before .before .before .before .intersects .ensures, c .before .before .before .before .before .if1 .left, ← c .before .before .before .before .intersects2 .ensures, c .before .before .before .if2 .taken, ← c .before .before .intersects3 .ensures, c .if3 .taken)
+
+returns-3 : tie.Need-returns-3
+unfolding connection
+returns-3 c = rw (← c .before .before .before .before .before .before .intersects .ensures, c .before .before .before .before .before .if1 .left, ← c .before .before .before .before .intersects2 .ensures, c .before .before .before .if2 .taken, ← c .before .before .intersects3 .ensures, c .if3 .left)
+
+returns-4 : tie.Need-returns-4
+unfolding connection
+returns-4 c = rw (← c .before .before .before .before .before .before .before .before .intersects .ensures, c .before .before .before .before .before .before .before .if1 .left, ← c .before .before .before .before .before .before .intersects2 .ensures, c .before .before .before .before .before .if2 .left, ← c .before .before .before .before .intersects4 .ensures, c .before .before .before .if4 .taken, ← c .before .before .intersects5 .ensures, c .if5 .taken)
+
+returns-5 : tie.Need-returns-5
+unfolding connection
+returns-5 c = rw (← c .before .before .before .before .before .before .before .before .intersects .ensures, c .before .before .before .before .before .before .before .if1 .left, ← c .before .before .before .before .before .before .intersects2 .ensures, c .before .before .before .before .before .if2 .left, ← c .before .before .before .before .intersects4 .ensures, c .before .before .before .if4 .taken, ← c .before .before .intersects5 .ensures, c .if5 .left)
+
+returns-6 : tie.Need-returns-6
+unfolding connection
+returns-6 c = rw (← c .before .before .before .before .before .intersects .ensures, c .before .before .before .before .if1 .left, ← c .before .before .before .intersects2 .ensures, c .before .before .if2 .left, ← c .before .intersects4 .ensures, c .if4 .left)
+
+pub link-connection-spec : {M : Type 1} → statement M
+link-connection-spec =
+    tie.close
+    (tie.spec
+    intersects-requires
+    intersects-requires-2
+    intersects-requires-3
+    intersects-requires-4
+    intersects-requires-5
+    returns
+    returns-2
+    returns-3
+    returns-4
+    returns-5
+    returns-6)

@@ -1,0 +1,78 @@
+use Rattle.glyphs.specs.BoxDrawing.{beside}
+use borrow.Author.Needs.{needs}
+use Rattle.glyphs.proofs.box_drawing.other_link.Statement.{statement}
+use Rattle.glyphs.proofs.box_drawing.other_link.Tie as tie
+
+intersects-requires : tie.Need-intersects-requires
+intersects-requires c κs = search needs
+
+intersects-requires-2 : tie.Need-intersects-requires-2
+intersects-requires-2 c κs = search needs
+
+intersects-requires-3 : tie.Need-intersects-requires-3
+intersects-requires-3 c κs = search needs
+
+intersects-requires-4 : tie.Need-intersects-requires-4
+intersects-requires-4 c κs = search needs
+
+intersects-requires-5 : tie.Need-intersects-requires-5
+intersects-requires-5 c κs = search needs
+
+intersects-requires-6 : tie.Need-intersects-requires-6
+intersects-requires-6 c κs = search needs
+
+returns : tie.Need-returns
+unfolding beside
+returns c = rw (← c .before .before .before .before .before .intersects .ensures, ← c .before .before .before .before .intersects2 .ensures, ← c .before .before .before .intersects3 .ensures, ← c .before .before .intersects4 .ensures, ← c .before .intersects5 .ensures, c .if1 .taken)
+
+returns-2 : tie.Need-returns-2
+unfolding beside
+returns-2 c = rw (← c .before .before .before .before .before .before .before .intersects .ensures, ← c .before .before .before .before .before .before .intersects2 .ensures, ← c .before .before .before .before .before .intersects3 .ensures, ← c .before .before .before .before .intersects4 .ensures, ← c .before .before .before .intersects5 .ensures, c .before .before .if1 .left, ← c .before .intersects6 .ensures, c .if2 .taken)
+
+returns-3 : tie.Need-returns-3
+unfolding beside
+returns-3 c = rw (← c .before .before .before .before .before .before .before .before .intersects .ensures, ← c .before .before .before .before .before .before .before .intersects2 .ensures, ← c .before .before .before .before .before .before .intersects3 .ensures, ← c .before .before .before .before .before .intersects4 .ensures, ← c .before .before .before .before .intersects5 .ensures, c .before .before .before .if1 .left, ← c .before .before .intersects6 .ensures, c .before .if2 .left, c .if3 .taken)
+
+returns-4 : tie.Need-returns-4
+unfolding beside
+returns-4 c = rw (← c .before .before .before .before .before .before .before .before .before .intersects .ensures, ← c .before .before .before .before .before .before .before .before .intersects2 .ensures, ← c .before .before .before .before .before .before .before .intersects3 .ensures, ← c .before .before .before .before .before .before .intersects4 .ensures, ← c .before .before .before .before .before .intersects5 .ensures, c .before .before .before .before .if1 .left, ← c .before .before .before .intersects6 .ensures, c .before .before .if2 .left, c .before .if3 .left, c .if4 .taken)
+
+returns-5 : tie.Need-returns-5
+unfolding beside
+returns-5 c = rw (← c .before .before .before .before .before .before .before .before .before .before .intersects .ensures, ← c .before .before .before .before .before .before .before .before .before .intersects2 .ensures, ← c .before .before .before .before .before .before .before .before .intersects3 .ensures, ← c .before .before .before .before .before .before .before .intersects4 .ensures, ← c .before .before .before .before .before .before .intersects5 .ensures, c .before .before .before .before .before .if1 .left, ← c .before .before .before .before .intersects6 .ensures, c .before .before .before .if2 .left, c .before .before .if3 .left, c .before .if4 .left, c .if5 .taken)
+
+returns-6 : tie.Need-returns-6
+unfolding beside
+returns-6 c = rw (← c .before .before .before .before .before .before .before .before .before .before .before .intersects .ensures, ← c .before .before .before .before .before .before .before .before .before .before .intersects2 .ensures, ← c .before .before .before .before .before .before .before .before .before .intersects3 .ensures, ← c .before .before .before .before .before .before .before .before .intersects4 .ensures, ← c .before .before .before .before .before .before .before .intersects5 .ensures, c .before .before .before .before .before .before .if1 .left, ← c .before .before .before .before .before .intersects6 .ensures, c .before .before .before .before .if2 .left, c .before .before .before .if3 .left, c .before .before .if4 .left, c .before .if5 .left, c .if6 .taken)
+
+returns-7 : tie.Need-returns-7
+unfolding beside
+returns-7 c = rw (← c .before .before .before .before .before .before .before .before .before .before .before .before .intersects .ensures, ← c .before .before .before .before .before .before .before .before .before .before .before .intersects2 .ensures, ← c .before .before .before .before .before .before .before .before .before .before .intersects3 .ensures, ← c .before .before .before .before .before .before .before .before .before .intersects4 .ensures, ← c .before .before .before .before .before .before .before .before .intersects5 .ensures, c .before .before .before .before .before .before .before .if1 .left, ← c .before .before .before .before .before .before .intersects6 .ensures, c .before .before .before .before .before .if2 .left, c .before .before .before .before .if3 .left, c .before .before .before .if4 .left, c .before .before .if5 .left, c .before .if6 .left, c .if7 .taken)
+
+returns-8 : tie.Need-returns-8
+unfolding beside
+returns-8 c = rw (← c .before .before .before .before .before .before .before .before .before .before .before .before .before .intersects .ensures, ← c .before .before .before .before .before .before .before .before .before .before .before .before .intersects2 .ensures, ← c .before .before .before .before .before .before .before .before .before .before .before .intersects3 .ensures, ← c .before .before .before .before .before .before .before .before .before .before .intersects4 .ensures, ← c .before .before .before .before .before .before .before .before .before .intersects5 .ensures, c .before .before .before .before .before .before .before .before .if1 .left, ← c .before .before .before .before .before .before .before .intersects6 .ensures, c .before .before .before .before .before .before .if2 .left, c .before .before .before .before .before .if3 .left, c .before .before .before .before .if4 .left, c .before .before .before .if5 .left, c .before .before .if6 .left, c .before .if7 .left, c .if8 .taken)
+
+returns-9 : tie.Need-returns-9
+unfolding beside
+returns-9 c = rw (← c .before .before .before .before .before .before .before .before .before .before .before .before .before .intersects .ensures, ← c .before .before .before .before .before .before .before .before .before .before .before .before .intersects2 .ensures, ← c .before .before .before .before .before .before .before .before .before .before .before .intersects3 .ensures, ← c .before .before .before .before .before .before .before .before .before .before .intersects4 .ensures, ← c .before .before .before .before .before .before .before .before .before .intersects5 .ensures, c .before .before .before .before .before .before .before .before .if1 .left, ← c .before .before .before .before .before .before .before .intersects6 .ensures, c .before .before .before .before .before .before .if2 .left, c .before .before .before .before .before .if3 .left, c .before .before .before .before .if4 .left, c .before .before .before .if5 .left, c .before .before .if6 .left, c .before .if7 .left, c .if8 .left)
+
+pub other-link-spec : {M : Type 1} → statement M
+other-link-spec =
+    tie.close
+    (tie.spec
+    intersects-requires
+    intersects-requires-2
+    intersects-requires-3
+    intersects-requires-4
+    intersects-requires-5
+    intersects-requires-6
+    returns
+    returns-2
+    returns-3
+    returns-4
+    returns-5
+    returns-6
+    returns-7
+    returns-8
+    returns-9)

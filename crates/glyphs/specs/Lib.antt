@@ -1,0 +1,10 @@
+pub mod Ascii
+pub mod AsciiLarge
+pub mod BoxDrawing
+pub mod Cells
+pub mod Characters
+pub mod GlyphSets
+pub mod Inner
+pub mod Joins
+pub mod Marks
+pub mod Row

@@ -1,0 +1,283 @@
+// The glyph sets, the link line and the bytes of the box drawing renderers, after box_drawing.rs.
+ghost use mathlib.Core.Path.{_≡_};
+ghost use Prim.Native.Nat.{min};
+ghost use Rattle.glyphs.specs.BoxDrawing.{ancestor, across, between, beside, plain, boxLink, styled, bytes};
+ghost use Rattle.glyphs.specs.Inner.{Holds, entry};
+use crate::types::Choice;
+use crate::types::Glyph;
+use render::DashStyle;
+use render::LinkLine;
+
+// The numbers of the fifteen glyphs.
+const SPACE: usize = 0;
+
+const HORIZONTAL: usize = 1;
+
+const PARENT: usize = 2;
+
+const ANCESTOR: usize = 3;
+
+const MERGE_LEFT: usize = 4;
+
+const MERGE_RIGHT: usize = 5;
+
+const MERGE_BOTH: usize = 6;
+
+const FORK_LEFT: usize = 7;
+
+const FORK_RIGHT: usize = 8;
+
+const FORK_BOTH: usize = 9;
+
+const JOIN_LEFT: usize = 10;
+
+const JOIN_RIGHT: usize = 11;
+
+const JOIN_BOTH: usize = 12;
+
+const TERMINATION: usize = 13;
+
+const ANCESTOR_ONCE: usize = 14;
+
+const COUNT: usize = 15;
+
+// The bytes of a glyph in a table: a count, and eight places.
+const ENTRY: usize = 9;
+
+// The bytes of a table.
+pub const TABLE: usize = COUNT * ENTRY;
+
+// The glyphs of each set: on each line the count of a glyph's bytes, and its eight places.
+pub(crate) const SQUARE_GLYPHS: [u8; TABLE] = *b"\
+    \x02  \0\0\0\0\0\0\
+    \x06\xe2\x94\x80\xe2\x94\x80\0\0\
+    \x04\xe2\x94\x82 \0\0\0\0\
+    \x03\xc2\xb7 \0\0\0\0\0\
+    \x04\xe2\x94\x98 \0\0\0\0\
+    \x06\xe2\x94\x94\xe2\x94\x80\0\0\
+    \x06\xe2\x94\xb4\xe2\x94\x80\0\0\
+    \x04\xe2\x94\x90 \0\0\0\0\
+    \x06\xe2\x94\x8c\xe2\x94\x80\0\0\
+    \x06\xe2\x94\xac\xe2\x94\x80\0\0\
+    \x04\xe2\x94\xa4 \0\0\0\0\
+    \x06\xe2\x94\x9c\xe2\x94\x80\0\0\
+    \x06\xe2\x94\xbc\xe2\x94\x80\0\0\
+    \x02~ \0\0\0\0\0\0\
+    \x04\xe2\x94\x86 \0\0\0\0\
+";
+
+pub(crate) const CURVED_GLYPHS: [u8; TABLE] = *b"\
+    \x02  \0\0\0\0\0\0\
+    \x06\xe2\x94\x80\xe2\x94\x80\0\0\
+    \x04\xe2\x94\x82 \0\0\0\0\
+    \x04\xe2\x95\xb7 \0\0\0\0\
+    \x04\xe2\x95\xaf \0\0\0\0\
+    \x06\xe2\x95\xb0\xe2\x94\x80\0\0\
+    \x06\xe2\x94\xb4\xe2\x94\x80\0\0\
+    \x04\xe2\x95\xae \0\0\0\0\
+    \x06\xe2\x95\xad\xe2\x94\x80\0\0\
+    \x06\xe2\x94\xac\xe2\x94\x80\0\0\
+    \x04\xe2\x94\xa4 \0\0\0\0\
+    \x06\xe2\x94\x9c\xe2\x94\x80\0\0\
+    \x06\xe2\x94\xbc\xe2\x94\x80\0\0\
+    \x02~ \0\0\0\0\0\0\
+    \x04\xe2\x94\x86 \0\0\0\0\
+";
+
+pub(crate) const DEC_GLYPHS: [u8; TABLE] = *b"\
+    \x02  \0\0\0\0\0\0\
+    \x08\x1b(0qq\x1b(B\
+    \x08\x1b(0x \x1b(B\
+    \x08\x1b(0~ \x1b(B\
+    \x08\x1b(0j \x1b(B\
+    \x08\x1b(0mq\x1b(B\
+    \x08\x1b(0vq\x1b(B\
+    \x08\x1b(0k \x1b(B\
+    \x08\x1b(0lq\x1b(B\
+    \x08\x1b(0wq\x1b(B\
+    \x08\x1b(0u \x1b(B\
+    \x08\x1b(0tq\x1b(B\
+    \x08\x1b(0nq\x1b(B\
+    \x02~ \0\0\0\0\0\0\
+    \x02: \0\0\0\0\0\0\
+";
+
+// The unions of marks that the link line asks for.
+const LEFT: LinkLine = LinkLine {
+    bits: LinkLine::LEFT_MERGE.bits | LinkLine::LEFT_FORK.bits,
+};
+
+const RIGHT: LinkLine = LinkLine {
+    bits: LinkLine::RIGHT_MERGE.bits | LinkLine::RIGHT_FORK.bits,
+};
+
+const LEFT_MERGE_OR_CHILD: LinkLine = LinkLine {
+    bits: LinkLine::LEFT_MERGE.bits | LinkLine::CHILD.bits,
+};
+
+const RIGHT_MERGE_OR_CHILD: LinkLine = LinkLine {
+    bits: LinkLine::RIGHT_MERGE.bits | LinkLine::CHILD.bits,
+};
+
+// The dashed upright's number.
+fn dashed(dash_style: DashStyle) -> usize
+    ensures { λ r. ⌜ r ≡ ancestor «dash_style» ⌝ }
+{
+    match dash_style {
+        DashStyle::Persistent => ANCESTOR,
+        DashStyle::Once => ANCESTOR_ONCE,
+    }
+}
+
+// A link cell with a horizontal stroke.
+fn horizontal_link(merge: bool, cur: LinkLine) -> usize
+    ensures { λ r. ⌜ r ≡ across merge cur ⌝ }
+{
+    let any_fork = cur.intersects(LinkLine::ANY_FORK);
+    let any_merge = cur.intersects(LinkLine::ANY_MERGE);
+    let vert_parent = cur.intersects(LinkLine::VERT_PARENT);
+    if cur.intersects(LinkLine::CHILD) {
+        JOIN_BOTH
+    } else if any_fork & any_merge {
+        JOIN_BOTH
+    } else if any_fork & (vert_parent & !merge) {
+        JOIN_BOTH
+    } else if any_fork {
+        FORK_BOTH
+    } else if any_merge {
+        MERGE_BOTH
+    } else {
+        HORIZONTAL
+    }
+}
+
+// An upright, with strokes to the left and to the right or else plain.
+fn vertical_link(left: bool, right: bool, plain: usize) -> usize
+    ensures { λ r. ⌜ r ≡ between left right plain ⌝ }
+{
+    if left {
+        if right { JOIN_BOTH } else { JOIN_LEFT }
+    } else if right {
+        JOIN_RIGHT
+    } else {
+        plain
+    }
+}
+
+// A link cell with neither.
+fn other_link(cur: LinkLine) -> usize
+    ensures { λ r. ⌜ r ≡ beside cur ⌝ }
+{
+    let left_fork = cur.intersects(LinkLine::LEFT_FORK);
+    let right_fork = cur.intersects(LinkLine::RIGHT_FORK);
+    let left_merge = cur.intersects(LinkLine::LEFT_MERGE);
+    let right_merge = cur.intersects(LinkLine::RIGHT_MERGE);
+    if left_fork & cur.intersects(LEFT_MERGE_OR_CHILD) {
+        JOIN_LEFT
+    } else if right_fork & cur.intersects(RIGHT_MERGE_OR_CHILD) {
+        JOIN_RIGHT
+    } else if left_merge & right_merge {
+        MERGE_BOTH
+    } else if left_fork & right_fork {
+        FORK_BOTH
+    } else if left_fork {
+        FORK_LEFT
+    } else if left_merge {
+        MERGE_LEFT
+    } else if right_fork {
+        FORK_RIGHT
+    } else if right_merge {
+        MERGE_RIGHT
+    } else {
+        SPACE
+    }
+}
+
+// The plain upright of a link cell.
+fn plain_upright(cur: LinkLine) -> usize
+    ensures { λ r. ⌜ r ≡ plain cur ⌝ }
+{
+    if cur.intersects(LinkLine::VERT_ANCESTOR) {
+        ANCESTOR
+    } else {
+        PARENT
+    }
+}
+
+// The glyph's number of a link cell, ANCESTOR for a dashed upright of either style.
+pub(crate) fn link_glyph(merge: bool, cur: LinkLine) -> usize
+    ensures { λ r. ⌜ r ≡ boxLink merge cur ⌝ }
+{
+    if cur.intersects(LinkLine::HORIZONTAL) {
+        horizontal_link(merge, cur)
+    } else if cur.intersects(LinkLine::VERT_PARENT) & !merge {
+        vertical_link(cur.intersects(LEFT), cur.intersects(RIGHT), PARENT)
+    } else if cur.intersects(LinkLine::VERTICAL) & !cur.intersects(LinkLine::ANY_FORK) {
+        vertical_link(
+            cur.intersects(LinkLine::LEFT_MERGE),
+            cur.intersects(LinkLine::RIGHT_MERGE),
+            plain_upright(cur),
+        )
+    } else {
+        other_link(cur)
+    }
+}
+
+// A count, read as at most eight.
+fn at_most_eight(count: u8) -> usize
+    ensures { λ r. ⌜ r ≡ min count 8 ⌝ }
+{
+    if count < 8 {
+        return count as usize;
+    }
+    8
+}
+
+// A glyph of a table; none past the last.
+fn glyph_at(table: &[u8; TABLE], n: usize) -> Glyph
+    ensures { λ r. ⌜ Holds r (entry (now (table .entry)) n) ⌝ }
+{
+    if COUNT <= n {
+        return Glyph::none();
+    }
+    let from = n * ENTRY;
+    Glyph {
+        bytes: [
+            table[from + 1],
+            table[from + 2],
+            table[from + 3],
+            table[from + 4],
+            table[from + 5],
+            table[from + 6],
+            table[from + 7],
+            table[from + 8],
+        ],
+        length: at_most_eight(table[from]),
+    }
+}
+
+// The row's own dashed upright in place of ANCESTOR.
+fn own_dash(dash_style: DashStyle, n: usize) -> usize
+    ensures { λ r. ⌜ r ≡ styled «dash_style» n ⌝ }
+{
+    if n == ANCESTOR {
+        return dashed(dash_style);
+    }
+    n
+}
+
+// The bytes of a choice in the glyph set of a table.
+pub(crate) fn glyph(table: &[u8; TABLE], choice: Choice, dash_style: DashStyle, mark: u8) -> Glyph
+    ensures { λ r. ⌜ Holds r (bytes (entry (now (table .entry))) «dash_style» mark choice) ⌝ }
+{
+    match choice {
+        Choice::Space => glyph_at(table, SPACE),
+        Choice::Solid => glyph_at(table, PARENT),
+        Choice::Dashed => glyph_at(table, dashed(dash_style)),
+        Choice::Mark => Glyph::two(mark, b' '),
+        Choice::End => glyph_at(table, TERMINATION),
+        Choice::Two(_, _) => Glyph::none(),
+        Choice::Three(_, _, _) => Glyph::none(),
+        Choice::Glyph(n) => glyph_at(table, own_dash(dash_style, n)),
+    }
+}

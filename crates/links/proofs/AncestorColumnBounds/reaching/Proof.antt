@@ -1,0 +1,44 @@
+use borrow.Author.Needs.{needs}
+use Rattle.links.proofs.AncestorColumnBounds.reaching.Statement.{statement}
+use Rattle.links.proofs.AncestorColumnBounds.reaching.Tie as tie
+
+is-met-requires : tie.Need-is-met-requires
+is-met-requires c κs = search needs
+
+pick-requires : tie.Need-pick-requires
+pick-requires c κs = search needs
+
+is-direct-requires : tie.Need-is-direct-requires
+is-direct-requires c κs = search needs
+
+pick-requires-2 : tie.Need-pick-requires-2
+pick-requires-2 c κs = search needs
+
+least-requires : tie.Need-least-requires
+least-requires c κs = search needs
+
+least-requires-2 : tie.Need-least-requires-2
+least-requires-2 c κs = search needs
+
+greatest-requires : tie.Need-greatest-requires
+greatest-requires c κs = search needs
+
+greatest-requires-2 : tie.Need-greatest-requires-2
+greatest-requires-2 c κs = search needs
+
+returns : tie.Need-returns
+returns c = rw (c .greatest2 .ensures, c .before .greatest .ensures, c .before .before .least2 .ensures, c .before .before .before .least .ensures, c .before .before .before .before .pick2 .ensures, c .before .before .before .before .before .is-direct .ensures, c .before .before .before .before .before .before .pick .ensures, c .before .before .before .before .before .before .before .is-met .ensures)
+
+pub reaching-spec : {M : Type 1} → statement M
+reaching-spec =
+    tie.close
+    (tie.spec
+    is-met-requires
+    pick-requires
+    is-direct-requires
+    pick-requires-2
+    least-requires
+    least-requires-2
+    greatest-requires
+    greatest-requires-2
+    returns)

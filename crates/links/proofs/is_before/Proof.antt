@@ -1,0 +1,18 @@
+use borrow.Author.Needs.{needs}
+use Rattle.links.proofs.is_before.Statement.{statement}
+use Rattle.links.proofs.is_before.Tie as tie
+
+enum-known-found : tie.Need-enum-known-found
+enum-known-found c = search needs
+
+enum-told : tie.Need-enum-told
+enum-told c = search needs
+
+returns : tie.Need-returns
+returns c = rw (c .before .found .given .1)
+
+returns-2 : tie.Need-returns-2
+returns-2 c = search needs
+
+pub is-before-spec : {M : Type 1} → statement M
+is-before-spec = tie.close (tie.spec enum-known-found enum-told returns returns-2)

@@ -1,0 +1,53 @@
+-- What the inner functions give for a link line, on arrays and counts: steps on the way to the definitions of Links.
+use Prim.Native.Nat.{ℕ, min, max}
+use mathlib.Core.Bool.{false, Bool, cond, not, _&&_, _||_}
+use mathlib.Core.List.{List, map}
+use lib.ListN.{take}
+use Rattle.column.specs.declared.Column.{Column}
+use Rattle.column.specs.Columns.{isAncestor, isParent}
+use Rattle.render.specs.declared.render.Marks.{Marks}
+use Rattle.render.specs.Entries.{isDirect}
+use Rattle.links.specs.declared.Met.{Met}
+use Rattle.links.specs.declared.AncestorColumnBounds.{AncestorColumnBounds}
+use Rattle.links.specs.declared.ParentColumn.{ParentColumn}
+use Rattle.links.specs.declared.Swap.{Swap}
+use Rattle.links.specs.Links.{isMet, met, marksOf}
+
+-- the bounds with one more column
+abbrev pub reaching : AncestorColumnBounds → ℕ → Met → AncestorColumnBounds
+reaching b i m =
+    let c : ℕ = b .target in
+    record {
+      target = c;
+      «min_ancestor» = min (b .«min_ancestor») (cond (isMet m) i c);
+      «min_parent» = min (b .«min_parent») (cond (met isDirect m) i c);
+      «max_parent» = max (b .«max_parent») (cond (met isDirect m) i c);
+      «max_ancestor» = max (b .«max_ancestor») (cond (isMet m) i c);
+    }
+
+-- who draws in each of the first n columns of an array
+abbrev pub mets : ℕ → List ParentColumn → List Met
+mets n l = map (λ (p : ParentColumn). p .met) (take n l)
+
+-- the marks that come from the node (`link_line_from_node`)
+abbrev pub fromNode : AncestorColumnBounds → Swap → ℕ → Met → Marks
+fromNode b w i m = marksOf b w i m false false
+
+-- those, with the line of the column before the entries where it was not given up
+abbrev pub withUprights : Bool → Column → Marks → Marks
+withUprights gone b m =
+    record {
+      «horiz_parent» = m .«horiz_parent»;
+      «horiz_ancestor» = m .«horiz_ancestor»;
+      «vert_parent» = (isParent b && not gone) || m .«vert_parent»;
+      «vert_ancestor» = (isAncestor b && not gone) || m .«vert_ancestor»;
+      «left_fork_parent» = m .«left_fork_parent»;
+      «left_fork_ancestor» = m .«left_fork_ancestor»;
+      «right_fork_parent» = m .«right_fork_parent»;
+      «right_fork_ancestor» = m .«right_fork_ancestor»;
+      «left_merge_parent» = m .«left_merge_parent»;
+      «left_merge_ancestor» = m .«left_merge_ancestor»;
+      «right_merge_parent» = m .«right_merge_parent»;
+      «right_merge_ancestor» = m .«right_merge_ancestor»;
+      child = m .child;
+    }

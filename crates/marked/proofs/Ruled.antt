@@ -1,0 +1,69 @@
+-- What the definitions of the row call rule out (01, "What a contract here must settle", 2): a shaper refusing every row, one page for all histories,
+-- a row that leaves the columns untouched.
+use Prim.Native.Nat.{ℕ, zero, suc, _<_}
+use mathlib.Core.Path.{_≡_, refl, sym, _∙_, ap, subst}
+use mathlib.Core.Logic.{_≢_}
+use mathlib.Core.Bool.{Bool, true, false, cond}
+use mathlib.Core.List.{List, [], _∷_}
+use native.Mathlib.Omega.{arith}
+use lib.Dec.{ltb}
+use lib.ListN.{length}
+use Rattle.column.specs.declared.Column.{Column}
+use Rattle.column.specs.declared.Column.the-variants.{Empty}
+use Rattle.column.specs.declared.Found.{Found}
+use Rattle.column.specs.declared.Found.the-variants.{At, Nothing}
+use Rattle.column.specs.Columns.{find, put}
+use Rattle.render.specs.declared.render.Ancestor.{Ancestor as Entry}
+use Rattle.render.specs.declared.render.Ancestor.the-variants.{Ancestor, Parent, Anonymous}
+use Rattle.render.specs.declared.types.Options.{Options}
+use Rattle.render.specs.Refusals.{refusal}
+use Rattle.shaper.specs.Shaper.{heightLimit, View, newShaper}
+use Rattle.shaper.specs.NodeColumn.{dense, nodeColumn}
+use Rattle.placing.specs.Placing.{placeAt, place}
+use Rattle.row_shape.specs.Row.{RowReply, rowChecks, row}
+use Rattle.marked.specs.Marked.{plain, rowOf}
+use Rattle.marked.proofs.Holding.{Holds, Where, away, there, findIs, named, row-holds}
+
+accepted-first : (v : View) (n : ℕ) → v .columns ≡ [] → v .previous ≡ Nothing → (b : Bool) → dense v ≡ b → row v n false [] .refusal ≡ 0
+unfolding row place
+accepted-first v n e p true q = rw (e, q, p)
+accepted-first v n e p false q = rw (e, q)
+
+-- some row is accepted on every new shaper, a refused one too: each row without entries
+pub new-accepts : (o : Options) (n : ℕ) → row (newShaper o .view) n false [] .refusal ≡ 0
+new-accepts o n = go (ltb heightLimit (o .«min_row_height»)) refl
+  where
+    columns : (b : Bool) → ltb heightLimit (o .«min_row_height») ≡ b → newShaper o .view .columns ≡ []
+    columns true q = rw q
+    columns false q = rw q
+
+    previous : (b : Bool) → ltb heightLimit (o .«min_row_height») ≡ b → newShaper o .view .previous ≡ Nothing
+    previous true q = rw q
+    previous false q = rw q
+
+    go : (b : Bool) → ltb heightLimit (o .«min_row_height») ≡ b → row (newShaper o .view) n false [] .refusal ≡ 0
+    go b q = accepted-first (newShaper o .view) n (columns b q) (previous b q) (dense (newShaper o .view)) refl
+
+-- two rows have different shapes: one parent and two parents of the same node on the same shaper
+pub shapes-differ : rowOf plain 5 (Parent 7 ∷ []) .shape ≢ rowOf plain 5 (Parent 7 ∷ Parent 8 ∷ []) .shape
+unfolding row place
+shapes-differ e = let z : _≡_ {A = ℕ} 1 2 = ap (λ g. g .width) e in omega arith
+
+-- an accepted row with a parent that no column holds changes the columns
+module _ (v : View) (n : ℕ) (es : List Entry) (x : ℕ) (h : named x es ≡ true) (u : find x (v .columns) ≡ Nothing) where
+  held-after : row v n false es .refusal ≡ 0 → (i : ℕ) × Holds (row v n false es .view .columns) i x
+  unfolding row place
+  held-after a = go (refusal (rowChecks false (place v n es))) refl
+    where
+      go : (r : ℕ) → refusal (rowChecks false (place v n es)) ≡ r → (i : ℕ) × Holds (row v n false es .view .columns) i x
+      go zero q = rw q (row-holds (v .style .«dash_style») (nodeColumn v n) es (put (v .columns) (nodeColumn v n) Empty) x h)
+      go (suc r) q = let z : suc r ≡ 0 = rw q at a in absurd (omega arith)
+
+  not-before : (f : Found) → find x (v .columns) ≡ f → Where x (v .columns) f → (i : ℕ) → Holds (v .columns) i x → ⊥
+  not-before f e (away g) i q = g i q
+  not-before f e (there j g) i q = let z : _≡_ {A = ℕ} 0 1 = cc in omega arith
+
+  pub unheld-changes : row v n false es .refusal ≡ 0 → row v n false es .view .columns ≢ v .columns
+  unheld-changes a e =
+      let p = held-after a in
+      not-before (find x (v .columns)) refl (findIs x (v .columns)) (p .0) (subst (λ (cs : List Column). Holds cs (p .0) x) e (p .1))

@@ -1,0 +1,334 @@
+-- Laws of the definitions in specs/Placing.antt, worded for the functions over arrays: opening the node's column, and the walk over the entries.
+use Prim.Native.Nat.{ℕ, suc, _+_, _≤_, _<_, min, max}
+use mathlib.Core.Path.{_≡_, refl, ap, _∙_, sym}
+use mathlib.Core.Bool.{Bool, true, false, cond, not, _||_}
+use mathlib.Core.List.{List, [], _∷_, map}
+use native.Mathlib.Numerals.{add-one}
+use native.Mathlib.Omega.{arith}
+use lib.Dec.{ltb, leb, eqb}
+use lib.ListN.{length, getD, take, drop, set, replicate, length-set, drop-of-length-le, length-replicate, getD-replicate, List·getD-eq-default}
+use lib.Seq.{drop-cons, set-out, take-set-le, getD-set-same, getD-set-other}
+use borrow.Author.Tests.{ltb-true, ltb-false, leb-false, eqb-true, eqb-false}
+use Rattle.column.specs.declared.Column.{Column}
+use Rattle.column.specs.declared.Column.the-variants.{Empty, Blocked}
+use Rattle.column.specs.declared.Columns.{Columns}
+use Rattle.column.specs.declared.Found.{Found}
+use Rattle.column.specs.declared.Found.the-variants.{At, Nothing}
+use Rattle.column.specs.declared.Slot.{Slot}
+use Rattle.column.specs.Columns.{columnLimit, isEmpty, isParent, first, findEmpty, orElse, merge, at, put, live, emptySlot, columnAt, SpareEmpty}
+use Rattle.column.proofs.Front.{length-front, front-getD, front-clamp}
+use Rattle.column.proofs.Laws.{columnOf as slotColumn, first-below, live-put, spare-put}
+use Rattle.column.proofs.Positions.{length-put, put-skip, at-live, clear-keeps}
+use Rattle.render.specs.declared.render.Ancestor.{Ancestor as Entry}
+use Rattle.render.specs.declared.render.Entry.{Entry as Entry₁}
+use Rattle.render.specs.declared.render.Entries.{Entries}
+use Rattle.render.specs.Entries.{entryLimit, listed}
+use Rattle.render.specs.declared.render.Ancestor.the-variants.{Ancestor as Indirect, Parent as Direct, Anonymous}
+use Rattle.links.specs.declared.Met.the-variants.{Nobody, By}
+use Rattle.links.specs.declared.ParentColumn.{ParentColumn}
+use Rattle.placing.specs.declared.Walked.{Walked}
+use Rattle.placing.specs.declared.Settled.{Settled}
+use Rattle.placing.specs.Placing.{columnOf, heldBy, spot, enter, walk, metBy}
+use Rattle.placing.specs.Inner.{columnsOf, nobody, metAt, cleared, Opens, entered, lastSpot, Walks, swappedIn, settled}
+
+-- ---- the column of an entry
+module _ (c : ℕ) (e : Entry) (cs : List Column) where
+  pub spot-held : (i : ℕ) → heldBy e cs ≡ At i → i ≡ spot c e cs
+  spot-held i h = rw h
+
+  pub spot-free : (i : ℕ) → heldBy e cs ≡ Nothing → findEmpty c cs ≡ At i → i ≡ spot c e cs
+  spot-free i h f = rw (h, f)
+
+  pub spot-last : (i : ℕ) → heldBy e cs ≡ Nothing → findEmpty c cs ≡ Nothing → i ≡ length cs → i ≡ spot c e cs
+  spot-last i h f k = rw (h, f) k
+
+  held-within : (e : Entry) (i : ℕ) → heldBy e cs ≡ At i → i < length cs
+  held-within (Indirect n) i h = first-below _ cs i h
+  held-within (Direct n) i h = first-below _ cs i h
+  held-within Anonymous i h = let z : _≡_ {A = ℕ} 0 1 = cc in absurd (omega arith)
+
+  known : (c : ℕ) → isEmpty (getD cs c Blocked) ≡ true → c < length cs
+  known c h = go (ltb c (length cs)) refl
+    where
+      go : (b : Bool) → ltb c (length cs) ≡ b → c < length cs
+      go true q = ltb-true _ _ q
+      go false q =
+          let d : getD cs c Blocked ≡ Blocked = List·getD-eq-default cs Blocked {n = c} (ltb-false _ _ q) in
+          let f : isEmpty Blocked ≡ true = rw d at h in
+          let z : _≡_ {A = ℕ} 0 1 = cc in
+          absurd (omega arith)
+
+  free-within : (b : Bool) → isEmpty (getD cs c Blocked) ≡ b → (f : Found) → first isEmpty cs ≡ f → orElse (cond b (At c) f) (length cs) ≤ length cs
+  free-within true q f g = let h : c < length cs = known c q in omega arith
+  free-within false q (At i) g = omega (arith, first-below isEmpty cs i g)
+  free-within false q Nothing g = omega arith
+
+  -- an entry's column is one there is, or a new last one
+  pub spot-within : spot c e cs ≤ length cs
+  spot-within = go (heldBy e cs) refl
+    where
+      go : (f : Found) → heldBy e cs ≡ f → orElse f (orElse (findEmpty c cs) (length cs)) ≤ length cs
+      go (At i) h = omega (arith, held-within e i h)
+      go Nothing h = free-within (isEmpty (getD cs c Blocked)) refl (first isEmpty cs) refl
+
+-- ---- a walk never takes a column away
+pub walk-more : (c : ℕ) (es : List Entry) (cs : List Column) → length cs ≤ length (walk c es cs)
+walk-more c [] cs = omega arith
+walk-more c (e ∷ es) cs = omega (arith, walk-more c es (enter c e cs), length-put cs (spot c e cs) (merge (at cs (spot c e cs)) (columnOf e)))
+
+-- ---- the node's column Empty
+module _ (count column : ℕ) (l : List Slot) (long : length l ≡ columnLimit) where
+  abbrev n : ℕ
+  n = min count columnLimit
+
+  abbrev beside : List Slot
+  beside = set l n emptySlot
+
+  length-beside : length beside ≡ columnLimit
+  length-beside = length-set l n emptySlot ∙ long
+
+  -- the slot past the columns is none of them
+  live-beside : live count beside ≡ live count l
+  live-beside = go (ltb count columnLimit) refl
+    where
+      go : (b : Bool) → ltb count columnLimit ≡ b → live count beside ≡ live count l
+      go true q =
+          let h : count ≤ n = omega (arith, ltb-true count columnLimit q) in
+          rw (take-set-le count l n emptySlot h)
+      go false q = rw (set-out l n emptySlot (omega (arith, ltb-false count columnLimit q)))
+
+  module _ (m : ℕ) (e : m ≡ min (max count (column + 1)) columnLimit) where
+    there : column < columnLimit → column ≤ length (live count l) → live m (set beside column emptySlot) ≡ put (live count l) column Empty
+    there h k =
+        live-put count column m beside emptySlot (rw length-beside h) (rw live-beside k) (rw length-beside e)
+        ∙ ap (λ (cs : List Column). put cs column Empty) live-beside
+
+    one-past : column < columnLimit → column ≡ suc (length (live count l)) → live m (set beside column emptySlot) ≡ put (live count l) column Empty
+    one-past h k =
+        let w : length (live count l) ≡ n = rw (length-front slotColumn count l, long) in
+        let first-step : live (suc n) beside ≡ put (live count l) n Empty =
+        live-put count n (suc n) l emptySlot (omega arith) (rw w (omega arith)) (rw long (omega arith)) in
+        let second-step : live m (set beside column emptySlot) ≡ put (live (suc n) beside) column Empty =
+        live-put (suc n) column m beside emptySlot (rw length-beside h) (rw (first-step, length-put) (omega arith)) (rw length-beside (omega arith)) in
+        second-step
+        ∙ ap (λ (cs : List Column). put cs column Empty) first-step
+        ∙ rw (k, ← w) (put-skip (live count l) Empty)
+
+    at-column : (b : Bool) → ltb (length (live count l)) column ≡ b → column < columnLimit → column ≤ suc (length (live count l))
+        → live m (set beside column emptySlot) ≡ put (live count l) column Empty
+    at-column true q h k = one-past h (omega (arith, ltb-true (length (live count l)) column q))
+    at-column false q h k = there h (ltb-false _ _ q)
+
+    still : SpareEmpty count l → (j : ℕ) → m ≤ j → (b : Bool) → ltb j count ≡ b → (getD (set beside column emptySlot) j emptySlot) .column ≡ Empty
+    still g j p false q = clear-keeps beside column j (clear-keeps l n j (g j (ltb-false _ _ q)))
+    still g j p true q =
+        let o : length l ≤ j = omega (arith, ltb-true j count q) in
+        clear-keeps beside column j (clear-keeps l n j (rw (List·getD-eq-default l emptySlot {n = j} o)))
+
+    pub opened-done : Opens l count column (record { slots = set beside column emptySlot; count = m })
+    opened-done =
+        record {
+          columns = at-column (ltb (length (live count l)) column) refl;
+          long = length-set beside column emptySlot ∙ length-beside;
+          fits = omega arith;
+          rest = λ g j p. still g j p (ltb j count) refl;
+        }
+
+pub opened-made : (l beside out : List Slot) (count column n m : ℕ) → length l ≡ columnLimit → n ≡ min count columnLimit → beside ≡ cleared l n
+    → out ≡ cleared beside column → m ≡ min (max count (column + 1)) columnLimit → Opens l count column (record { slots = out; count = m })
+opened-made l beside out count column n m long a b d e = rw (d, b, a) (opened-done count column l long m e)
+
+-- ---- the walk over the entries
+
+-- who draws once an entry drew in column i
+met-set : (l : List ParentColumn) (i j : ℕ) (e : Entry) → i < length l
+    → metAt (set l i (record { met = By e })) j ≡ cond (eqb j i) (By e) (metAt l j)
+met-set l i j e h = go (eqb j i) refl
+  where
+    go : (b : Bool) → eqb j i ≡ b → metAt (set l i (record { met = By e })) j ≡ cond b (By e) (metAt l j)
+    go true q = ap (λ (p : ParentColumn). p .met) (rw (eqb-true j i q) (getD-set-same l i (record { met = By e }) nobody h))
+    go false q = ap (λ (p : ParentColumn). p .met) (getD-set-other l i j (record { met = By e }) nobody (eqb-false j i q))
+
+-- nobody draws at first
+pub met-none : (j : ℕ) → metAt (replicate columnLimit nobody) j ≡ Nobody
+met-none j = go (ltb j columnLimit) refl
+  where
+    go : (b : Bool) → ltb j columnLimit ≡ b → metAt (replicate columnLimit nobody) j ≡ Nobody
+    go true q = rw (getD-replicate columnLimit j nobody nobody (ltb-true _ _ q))
+    go false q =
+        rw (List·getD-eq-default (replicate columnLimit nobody) nobody {n = j} (rw (length-replicate columnLimit nobody) (ltb-false _ _ q)))
+
+-- what the walk keeps once i entries are in: the columns and who drew are what is left to do from there
+pub record Going (bare : Columns) (c : ℕ) (es : List Entry) (i : ℕ) (slots : List Slot) (count : ℕ) (parents : List ParentColumn) (last : ℕ) : Type 0 where
+  pub long : length slots ≡ columnLimit
+  pub wide : length parents ≡ columnLimit
+  pub fits : count ≤ columnLimit
+  pub within : last < columnLimit
+  pub columns : walk c (drop i es) (live count slots) ≡ walk c es (columnsOf bare)
+  pub met : (j : ℕ) → metBy j c (drop i es) (live count slots) (metAt parents j) ≡ metBy j c es (columnsOf bare) Nobody
+  pub spot-left : lastSpot c (drop i es) (live count slots) last ≡ lastSpot c es (columnsOf bare) 0
+  pub rest : SpareEmpty (bare .count) (bare .slots) → SpareEmpty count slots
+
+module _ (bare : Columns) (c : ℕ) (es : List Entry) where
+  pub going-start : (parents : List ParentColumn) → length (bare .slots) ≡ columnLimit → bare .count ≤ columnLimit → parents ≡ replicate columnLimit nobody
+      → Going bare c es 0 (bare .slots) (bare .count) parents 0
+  going-start parents long h p =
+      record {
+        long = long;
+        wide = rw p (length-replicate columnLimit nobody);
+        fits = h;
+        within = omega arith;
+        columns = refl;
+        met = λ j. rw (p, met-none j);
+        spot-left = refl;
+        rest = λ g. g;
+      }
+
+  module _ (i : ℕ) (slots : List Slot) (count : ℕ) (parents : List ParentColumn) (last : ℕ) (g : Going bare c es i slots count parents last)
+      (e : Entry) (d : drop i es ≡ e ∷ drop (suc i) es) (index : ℕ) (k : index ≡ spot c e (live count slots)) where
+    abbrev now : List Column
+    now = live count slots
+
+    inside : index ≤ length now
+    inside = rw k (spot-within c e now)
+
+    -- a column past the limit: the node line would be too long
+    pub going-over : columnLimit ≤ index → columnLimit < length (walk c es (columnsOf bare))
+    going-over h =
+        let w : walk c (drop (suc i) es) (enter c e now) ≡ walk c es (columnsOf bare) = ap (λ (r : List Entry). walk c r now) (sym d) ∙ g .columns in
+        rw (← w) (omega (arith, walk-more c (drop (suc i) es) (enter c e now), length-put now (spot c e now) (merge (at now (spot c e now)) (columnOf e))))
+
+    module _ (h : index < columnLimit) (m : ℕ) (q : m ≡ min (max count (index + 1)) columnLimit) (s : Slot)
+        (f : s ≡ entered (getD slots index emptySlot) index count e) where
+      a : index < length slots
+      a = rw (g .long) h
+
+      r : m ≡ min (max count (index + 1)) (length slots)
+      r = rw (g .long) q
+
+      next : live m (set slots index s) ≡ enter c e now
+      next =
+          live-put count index m slots s a inside r
+          ∙ rw (f, ← at-live count slots index a, k)
+
+      pub going-next : Going bare c es (i + 1) (set slots index s) m (set parents index (record { met = By e })) index
+      going-next =
+          record {
+            long = length-set slots index s ∙ g .long;
+            wide = length-set parents index (record { met = By e }) ∙ g .wide;
+            fits = omega arith;
+            within = h;
+            columns = rw (add-one i, next) (ap (λ (t : List Entry). walk c t now) (sym d) ∙ g .columns);
+            met = λ j.
+                rw (add-one i, next, met-set parents index j e (rw (g .wide) h), k)
+                (ap (λ (t : List Entry). metBy j c t now (metAt parents j)) (sym d) ∙ g .met j);
+            spot-left = rw (add-one i, next, k) (ap (λ (t : List Entry). lastSpot c t now last) (sym d) ∙ g .spot-left);
+            rest = λ p. spare-put count index m slots s a inside r (g .rest p);
+          }
+
+  module _ (i : ℕ) (slots : List Slot) (count : ℕ) (parents : List ParentColumn) (last : ℕ) (g : Going bare c es i slots count parents last) where
+    pub walked-over : columnLimit < length (walk c es (columnsOf bare))
+        → Walks bare c es (record { fits = false; slots = slots; count = count; parents = parents; spot = last })
+    walked-over h =
+        record {
+          over = λ z. h;
+          columns = λ z. let y : _≡_ {A = ℕ} 0 1 = cc in absurd (omega arith);
+          met = λ z. let y : _≡_ {A = ℕ} 0 1 = cc in absurd (omega arith);
+          last = λ z. let y : _≡_ {A = ℕ} 0 1 = cc in absurd (omega arith);
+          within = g .within;
+          long = g .long;
+          wide = g .wide;
+          fitting = g .fits;
+          rest = g .rest;
+        }
+
+    pub walked-done : drop i es ≡ [] → Walks bare c es (record { fits = true; slots = slots; count = count; parents = parents; spot = last })
+    walked-done d =
+        record {
+          over = λ z. let y : _≡_ {A = ℕ} 0 1 = cc in absurd (omega arith);
+          columns = λ z. ap (λ (t : List Entry). walk c t (live count slots)) (sym d) ∙ g .columns;
+          met = λ z j. ap (λ (t : List Entry). metBy j c t (live count slots) (metAt parents j)) (sym d) ∙ g .met j;
+          last = λ z. ap (λ (t : List Entry). lastSpot c t (live count slots) last) (sym d) ∙ g .spot-left;
+          within = g .within;
+          long = g .long;
+          wide = g .wide;
+          fitting = g .fits;
+          rest = g .rest;
+        }
+
+-- the entries of an array
+abbrev pub given : ℕ → List Entry₁ → List Entry
+given n l = map (λ (e : Entry₁). e .ancestor) (take n l)
+
+module _ (n : ℕ) (l : List Entry₁) (i : ℕ) where
+  pub given-next : (d : Entry₁) → i < n → i < length l → drop i (given n l) ≡ (getD l i d) .ancestor ∷ drop (suc i) (given n l)
+  given-next d h k =
+      let f : Entry₁ → Entry = λ (e : Entry₁). e .ancestor in
+      let w : i < length (given n l) = rw length-front (omega arith) in
+      drop-cons (given n l) i ((getD l i d) .ancestor) w ∙ rw (front-getD f n l i d ((getD l i d) .ancestor) h k)
+
+  pub given-end : n ≤ i → drop i (given n l) ≡ []
+  given-end h = drop-of-length-le (given n l) {i = i} (rw length-front (omega arith))
+
+-- counts above the arrays' lengths are read as those
+entries-read : (n count : ℕ) (l : List Entry₁) → length l ≡ entryLimit → n ≡ min count entryLimit → given n l ≡ given count l
+entries-read n count l long e = front-clamp (λ (x : Entry₁). x .ancestor) n count l (rw long e)
+
+columns-read : (n count : ℕ) (l : List Slot) → length l ≡ columnLimit → n ≡ min count columnLimit → live n l ≡ live count l
+columns-read n count l long e = front-clamp slotColumn n count l (rw long e)
+
+spare-read : (n count : ℕ) (l : List Slot) → length l ≡ columnLimit → n ≡ min count columnLimit → SpareEmpty count l → SpareEmpty n l
+spare-read n count l long e g j h = go (ltb j count) refl
+  where
+    go : (b : Bool) → ltb j count ≡ b → (getD l j emptySlot) .column ≡ Empty
+    go true q = rw (List·getD-eq-default l emptySlot {n = j} (omega (arith, ltb-true j count q)))
+    go false q = g j (ltb-false j count q)
+
+pub walks-read : (bare : Columns) (c : ℕ) (es : Entries) (count n : ℕ) (r : Walked) → length (bare .slots) ≡ columnLimit → length (es .list) ≡ entryLimit
+    → count ≡ min (bare .count) columnLimit → n ≡ min (es .count) entryLimit → Walks (record { slots = bare .slots; count = count }) c (given n (es .list)) r
+    → Walks bare c (listed es) r
+walks-read bare c es count n r long wide e f p =
+    let b : live count (bare .slots) ≡ columnsOf bare = columns-read count (bare .count) (bare .slots) long e in
+    let l : given n (es .list) ≡ listed es = entries-read n (es .count) (es .list) wide f in
+    record {
+      over = λ z. rw (b, l) at (p .over z);
+      columns = λ z. rw (b, l) at (p .columns z);
+      met = λ z i. rw (b, l) at (p .met z i);
+      last = λ z. rw (b, l) at (p .last z);
+      within = p .within;
+      long = p .long;
+      wide = p .wide;
+      fitting = p .fitting;
+      rest = λ g. p .rest (spare-read count (bare .count) (bare .slots) long e g);
+    }
+
+-- ---- the swap
+module _ (w : Walked) (bare : Columns) (c : ℕ) where
+  pub swapped-in : (old : Column) (direct : Bool) → old ≡ columnAt (getD (bare .slots) (w .spot) emptySlot) (w .spot) (bare .count) → direct ≡ isParent old
+      → record {
+        slots = set (set (w .slots) c (getD (w .slots) (w .spot) emptySlot)) (w .spot) (getD (w .slots) c emptySlot);
+        parents = set (set (w .parents) (w .spot) nobody) c (getD (w .parents) (w .spot) nobody);
+        swap = record { «given_up» = At (w .spot); «was_direct» = direct };
+      }
+      ≡ swappedIn w bare c
+  swapped-in old direct e f = rw (f, e)
+
+  abbrev stays : Bool → Bool
+  stays single = not single || (leb (w .spot) c || leb columnLimit (w .spot))
+
+  pub settled-stays : (single : Bool) → stays single ≡ true
+      → record { slots = w .slots; parents = w .parents; swap = record { «given_up» = Nothing; «was_direct» = false } } ≡ settled w bare c single
+  settled-stays single h = rw h
+
+  pub settled-moves : (single : Bool) (r : Settled) → stays single ≡ false → r ≡ swappedIn w bare c → r ≡ settled w bare c single
+  settled-moves single r h e = rw h e
+
+  -- what the test leaves open: both columns are within the limit
+  pub settled-within : (single : Bool) → stays single ≡ false → (c < w .spot) × (w .spot < columnLimit)
+  settled-within single h = go single (leb (w .spot) c) refl (leb columnLimit (w .spot)) refl h
+    where
+      go : (s a : Bool) → leb (w .spot) c ≡ a → (b : Bool) → leb columnLimit (w .spot) ≡ b → (not s || (a || b)) ≡ false → (c < w .spot) × (w .spot < columnLimit)
+      go true false e false f z = (leb-false (w .spot) c e, leb-false columnLimit (w .spot) f)
+      go true false e true f z = let y : _≡_ {A = ℕ} 0 1 = cc in absurd (omega arith)
+      go true true e b f z = let y : _≡_ {A = ℕ} 0 1 = cc in absurd (omega arith)
+      go false a e b f z = let y : _≡_ {A = ℕ} 0 1 = cc in absurd (omega arith)

@@ -1,0 +1,19 @@
+use borrow.Author.Needs.{needs}
+use Rattle.placing.proofs.entered.Statement.{statement}
+use Rattle.placing.proofs.entered.Tie as tie
+
+column-at-requires : tie.Need-column-at-requires
+column-at-requires c κs = search needs
+
+ancestor-to-column-requires : tie.Need-ancestor-to-column-requires
+ancestor-to-column-requires c κs = search needs
+
+merge-requires : tie.Need-merge-requires
+merge-requires c κs = search needs
+
+returns : tie.Need-returns
+returns c = rw (c .merge .ensures, c .before .ancestor-to-column .ensures, c .before .before .column-at .ensures)
+
+pub entered-spec : {M : Type 1} → statement M
+entered-spec =
+    tie.close (tie.spec column-at-requires ancestor-to-column-requires merge-requires returns)

@@ -1,0 +1,3 @@
+pub mod Shaper
+pub mod NodeColumn
+pub mod Inner

@@ -1,0 +1,200 @@
+// The shaper: its state, the new shaper call, the reserving call and the node's column, after graph_to_row_shape.rs.
+ghost use mathlib.Core.Path.{_≡_};
+ghost use Rattle.column.specs.Columns.{live, orElse};
+ghost use Rattle.shaper.specs.Shaper.{viewOf, fresh, refusedOptions, Fresh, Reserves};
+ghost use Rattle.shaper.specs.NodeColumn.{unallocated, head};
+ghost use Rattle.shaper.specs.Inner.{fitting};
+use column::COLUMN_LIMIT;
+use column::Column;
+use column::Columns;
+use column::Found;
+use column::Slot;
+use render::DashStyle;
+use render::LinkLinePlacement;
+use render::Options;
+use render::Style;
+
+// The greatest minimum row height that a new shaper takes.
+pub const HEIGHT_LIMIT: usize = 16;
+
+// Refusal numbers; 0 is none.
+pub const ACCEPTED: u8 = 0;
+
+pub const HEIGHT_ABOVE_LIMIT: u8 = 1;
+
+pub const NO_COLUMN_LEFT: u8 = 2;
+
+pub const TOO_MANY_ENTRIES: u8 = 3;
+
+pub const NODE_LINE_TOO_WIDE: u8 = 4;
+
+// The state of the first pipeline stage (`GraphRowShaper` in graph_to_row_shape.rs).
+pub struct Shaper {
+    pub slots: [Slot; COLUMN_LIMIT],
+    pub count: usize,
+    pub previous_node_column: Found,
+    pub options: Options,
+}
+
+// What a call that only changes the shaper gives: the refusal's number, and the shaper after it.
+pub struct Answer {
+    pub refusal: u8,
+    pub shaper: Shaper,
+}
+
+// A shaper without columns, and without a previous node.
+fn without_columns(options: Options) -> Shaper
+    ensures { λ r. ⌜ r ≡ fresh options ⌝ }
+{
+    let empty = Slot::empty();
+    let slots = [empty; COLUMN_LIMIT];
+    let previous_node_column = Found::Nothing;
+    Shaper {
+        slots,
+        count: 0,
+        previous_node_column,
+        options,
+    }
+}
+
+// The style of what a refusal gives.
+pub fn default_style() -> Style
+    ensures { λ r. ⌜ r ≡ refusedOptions .«graph_row_shape_style» ⌝ }
+{
+    let dash_style = DashStyle::Persistent;
+    let link_line_placement = LinkLinePlacement::Top;
+    Style {
+        dash_style,
+        link_line_placement,
+    }
+}
+
+// The column, where there is room for it.
+fn within_limit(column: usize) -> Found
+    ensures { λ r. ⌜ r ≡ fitting column ⌝ }
+{
+    if column < COLUMN_LIMIT {
+        return Found::At(column);
+    }
+    Found::Nothing
+}
+
+// Whether the node is a head: no column held, or a Reserved one.
+pub fn is_head(slots: [Slot; COLUMN_LIMIT], count: usize, existing: Found) -> bool
+    ensures { λ r. ⌜ r ≡ head existing (live count slots) ⌝ }
+{
+    let Found::At(index) = existing else {
+        return true;
+    };
+    if COLUMN_LIMIT <= index {
+        return false;
+    }
+    let slot = slots[index];
+    let column = slot.column_at(index, count);
+    column.is_reserved()
+}
+
+impl Shaper {
+    // The new shaper call: a shaper with the options given.
+    pub fn with_options(options: Options) -> Answer
+        ensures { λ r. ⌜ Fresh options r ⌝ }
+    {
+        let height = options.min_row_height;
+        if HEIGHT_LIMIT < height {
+            let graph_row_shape_style = default_style();
+            let refused = Options {
+                min_row_height: 0,
+                stagger_consecutive_disconnected_nodes: false,
+                graph_row_shape_style,
+            };
+            let shaper = without_columns(refused);
+            return Answer {
+                refusal: HEIGHT_ABOVE_LIMIT,
+                shaper,
+            };
+        }
+        let shaper = without_columns(options);
+        Answer {
+            refusal: ACCEPTED,
+            shaper,
+        }
+    }
+
+    // The reserving call: an id already held changes nothing, else it becomes Reserved in the first Empty column or a new last one.
+    pub fn reserve(self, node: u32) -> Answer
+        ensures { λ r. ⌜ Reserves self node r ⌝ }
+    {
+        let slots = self.slots;
+        let count = self.count;
+        let Found::Nothing = column::find(slots, count, node) else {
+            return Answer {
+                refusal: ACCEPTED,
+                shaper: self,
+            };
+        };
+        let index = column::vacant(slots, count);
+        if COLUMN_LIMIT <= index {
+            return Answer {
+                refusal: NO_COLUMN_LEFT,
+                shaper: self,
+            };
+        }
+        let column = Column::Reserved(node);
+        let mut shaper = self;
+        shaper.slots[index] = Slot { column };
+        shaper.count = column::count_with(count, index);
+        Answer {
+            refusal: ACCEPTED,
+            shaper,
+        }
+    }
+
+    // A column for a node that none holds.
+    fn find_column_for_unallocated_node(self) -> usize
+        ensures { λ r. ⌜ r ≡ unallocated (viewOf self) ⌝ }
+    {
+        let slots = self.slots;
+        let count = self.count;
+        let options = self.options;
+        if !options.stagger_consecutive_disconnected_nodes | (1 < options.min_row_height) {
+            return column::vacant(slots, count);
+        }
+        let previous_node_column = self.previous_node_column;
+        let Found::At(skip) = previous_node_column else {
+            return column::vacant(slots, count);
+        };
+        let Found::At(index) = column::first_other_empty(slots, count, skip) else {
+            let n = column::live_count(count);
+            if skip == n {
+                return n + 1;
+            }
+            return n;
+        };
+        index
+    }
+
+    // The node's column, where there is room for it: the one that holds its id, else another.
+    pub fn find_column(self, existing: Found) -> Found
+        ensures { λ r. ⌜ r ≡ fitting (orElse existing (unallocated (viewOf self))) ⌝ }
+    {
+        let Found::At(index) = existing else {
+            return within_limit(self.find_column_for_unallocated_node());
+        };
+        within_limit(index)
+    }
+
+    // The shaper after a row: the columns as they are then, and the node's column.
+    pub fn after_row(self, columns: Columns, column: usize) -> Shaper
+        ensures { λ r. ⌜ r ≡ record { slots = columns .slots; count = columns .count; «previous_node_column» = Found.At column; options = self .options } ⌝ }
+    {
+        let slots = columns.slots;
+        let previous_node_column = Found::At(column);
+        let options = self.options;
+        Shaper {
+            slots,
+            count: columns.count,
+            previous_node_column,
+            options,
+        }
+    }
+}
