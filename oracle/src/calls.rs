@@ -19,6 +19,9 @@ use crate::stream::Options;
 use crate::stream::Row;
 use crate::stream::Text;
 
+/// The bytes of a queued line's array.
+pub const QUEUE: usize = 512;
+
 /// The crate's shaper over our ids.
 pub type Shaper = GraphRowShaper<u32>;
 
@@ -35,6 +38,16 @@ impl TextState {
         self.queued
             .as_ref()
             .is_none_or(|line| std::str::from_utf8(line).is_ok())
+    }
+
+    /// Whether a text call on this state is compared: the crate holds the queued line, there is no 0A in it, and no white space but
+    /// blanks at its end, since the crate trims all white space and ours only blanks.
+    pub fn is_compared(&self) -> bool {
+        let Some(line) = &self.queued else {
+            return true;
+        };
+        std::str::from_utf8(line)
+            .is_ok_and(|line| !line.contains('\n') && line.trim_end() == line.trim_end_matches(' '))
     }
 
     /// The crate's state.
@@ -186,7 +199,7 @@ pub fn hand_shaper(hand: &HandShaper) -> Shaper {
 
 /// The text state set by hand: a queued length beyond the array is the array's, bytes not given are 0.
 pub fn hand_state(hand: &HandState) -> TextState {
-    let length = hand.length.min(refusals::MESSAGE as u64) as usize;
+    let length = hand.length.min(QUEUE as u64) as usize;
     TextState {
         queued: codes::flag(hand.queued).then(|| padded(&hand.bytes, length)),
         row_height: hand.row_height as usize,

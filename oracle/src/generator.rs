@@ -11,6 +11,7 @@ use crate::stream::Command;
 use crate::stream::Drawing;
 use crate::stream::HandShaper;
 use crate::stream::Letters;
+use crate::stream::Options;
 use crate::stream::Repeat;
 use crate::stream::Row;
 use crate::stream::Text;
@@ -32,6 +33,9 @@ const THEMES: [(u64, Theme); 5] = [
     (15, [1, 1, 1, 1, 1, 1, 1, 1, 1, 1, 1]),
 ];
 
+/// The theme of a list of lone rows, between which separators stand.
+const LONE_THEME: Theme = [1, 1, 2, 1, 1, 24, 0, 1, 6, 0, 1];
+
 /// A list in the making, with the machine that it has led to.
 struct Generator<'a> {
     random: Random,
@@ -39,6 +43,7 @@ struct Generator<'a> {
     machine: Machine,
     ids: Vec<u32>,
     theme: Theme,
+    lone: bool,
     commands: Vec<Command>,
 }
 
@@ -57,11 +62,7 @@ pub fn list(seed: u64, number: u32, letters: &Letters) -> Vec<Command> {
 fn theme(random: &mut Random, letters: &Letters) -> Theme {
     let mut themes = THEMES;
     for (weight, theme) in &mut themes {
-        for (place, letter) in ALL_LETTERS.iter().enumerate() {
-            if !letters.know(*letter) {
-                theme[place] = 0;
-            }
-        }
+        *theme = built(*theme, letters);
         if theme.iter().sum::<u64>() == 0 {
             *weight = 0;
         }
@@ -73,6 +74,16 @@ fn theme(random: &mut Random, letters: &Letters) -> Theme {
     themes[random.weighted(&weights)].1
 }
 
+/// A theme without the letters that are not built.
+fn built(mut theme: Theme, letters: &Letters) -> Theme {
+    for (place, letter) in ALL_LETTERS.iter().enumerate() {
+        if !letters.know(*letter) {
+            theme[place] = 0;
+        }
+    }
+    theme
+}
+
 impl<'a> Generator<'a> {
     /// A list without commands yet.
     fn new(random: Random, letters: &'a Letters, ids: Vec<u32>, theme: Theme) -> Self {
@@ -82,6 +93,7 @@ impl<'a> Generator<'a> {
             machine: Machine::new(letters),
             ids,
             theme,
+            lone: false,
             commands: Vec::new(),
         }
     }
@@ -96,11 +108,12 @@ impl<'a> Generator<'a> {
 
     /// Fills the list.
     fn fill(&mut self) {
-        let length = match self.random.weighted(&[70, 12, 12, 2, 4]) {
+        let length = match self.random.weighted(&[64, 12, 12, 2, 6, 4]) {
             0 => self.opening(4, 30),
             1 => self.hand_made_opening(4, 30),
             2 => self.wide_opening_by_hand(4, 24),
             3 => self.wide_opening_by_reserving(4, 20),
+            4 => self.lone_opening(4, 30),
             _ => self.opening(80, 160),
         };
         if self.theme.iter().sum::<u64>() > 0 {
@@ -116,6 +129,19 @@ impl<'a> Generator<'a> {
             let options = self.options();
             self.push(Command::New(options));
         }
+        self.random.from(least, most)
+    }
+
+    /// Opens with a new shaper whose lone rows have separators; gives how many commands follow, most of them such rows.
+    fn lone_opening(&mut self, least: u64, most: u64) -> u64 {
+        let options = Options {
+            height: self.random.below(2),
+            stagger: 0,
+            ..self.options()
+        };
+        self.push(Command::New(options));
+        self.theme = built(LONE_THEME, self.letters);
+        self.lone = true;
         self.random.from(least, most)
     }
 
@@ -174,6 +200,13 @@ impl<'a> Generator<'a> {
 
     /// A row call.
     fn row(&mut self) -> Row {
+        if self.lone && !self.random.once_in(5) {
+            let node = self.random.from(1000, 1200) as u32;
+            return Row {
+                node,
+                entries: Vec::new(),
+            };
+        }
         let node = self.node();
         Row {
             node,

@@ -6,7 +6,7 @@ use lib.Dec.{eqb}
 use Rattle.render.specs.declared.render.Ancestor.{Ancestor as Entry}
 use Rattle.render.specs.declared.render.Ancestor.the-variants.{Ancestor as Indirect, Parent as Direct, Anonymous}
 
--- the calls of demand 3's list: reserving calls and row calls, with their arguments
+-- the calls of the account: reserving calls and row calls, with their arguments (a text call counts as a row call)
 pub data Call : Type 0 where
   Reserve : ℕ → Call
   Row : ℕ → List Entry → Call

@@ -1,12 +1,14 @@
--- The machine of our definitions: the row and reserving calls on views.
+-- The machine of our definitions: the row, reserving and text calls on views.
 use Prim.Native.Nat.{ℕ, zero, suc}
 use mathlib.Core.Bool.{Bool, true, false, cond}
 use mathlib.Core.List.{List, [], _∷_, map}
-use lib.Dec.{eqb}
-use Rattle.column.specs.declared.Column.{Column}
+use lib.Dec.{eqb, ltb}
+use lib.ListN.{length}
+use Rattle.render.specs.declared.render.Ancestor.{Ancestor as Entry}
 use Rattle.render.specs.declared.types.RowShape.{RowShape}
+use Rattle.render.specs.Entries.{entryLimit}
 use Rattle.shaper.specs.Shaper.{View, reserve}
-use Rattle.row_shape.specs.Row.{RowReply, row, noShape}
+use Rattle.row_shape.specs.Row.{noShape}
 use Rattle.marked.specs.Marked.{rowOf}
 use Rattle.glyphs.specs.declared.Renderer.{Renderer}
 use Rattle.glyphs.specs.declared.types.Choice.{Choice}
@@ -14,20 +16,54 @@ use Rattle.glyphs.specs.declared.types.Choice.the-variants as choice
 use Rattle.glyphs.specs.declared.types.Line.the-variants.{PreNode, PostAncestry}
 use Rattle.glyphs.specs.Cells.{PrefixLine, lines}
 use Rattle.prefix_lines.specs.PrefixLines.{letter}
+use Rattle.output.specs.Output.{TextView}
+use Rattle.text.specs.Text.{TextReply, text}
 use Rattle.history.specs.Account.{Call, Reserve, Row}
 use Rattle.history.specs.Demand3.{Stroke, Blank, Dashed, Solid, Other, Machine}
+
+-- what a text call gets beside the shaper, the node and the entries; the text state too is its own, so that calls may share one or not
+pub record TextArguments : Type 0 where
+  pub state : TextView
+  pub renderer : Renderer
+  pub mark : ℕ
+  pub message : List ℕ
+  pub output : List ℕ
+
+-- the calls of the list: reserving calls and row calls, and text calls
+pub data Item : Type 0 where
+  Plain : Call → Item
+  Text : TextArguments → ℕ → List Entry → Item
+
+-- "A text call, once it runs, counts there as the row call with its node and entries, refused where the text call is."
+abbrev pub callOf : Item → Call
+callOf (Plain k) = k
+callOf (Text a n es) = Row n es
+
+-- the text call on a list of entries
+abbrev pub textOn : View → TextArguments → ℕ → List Entry → TextReply
+textOn v a n es = text v (a .state) (a .renderer) n (ltb entryLimit (length es)) es (a .mark) (a .message) (a .output)
 
 abbrev pub isRefusal : ℕ → Bool
 isRefusal zero = false
 isRefusal (suc n) = true
 
-abbrev pub refuses : View → Call → Bool
-refuses v (Reserve n) = isRefusal (reserve v n .refusal)
-refuses v (Row n es) = isRefusal (rowOf v n es .refusal)
+-- whether a reserving or row call is refused, and the shaper after it
+abbrev pub refusesCall : View → Call → Bool
+refusesCall v (Reserve n) = isRefusal (reserve v n .refusal)
+refusesCall v (Row n es) = isRefusal (rowOf v n es .refusal)
 
-abbrev pub after : View → Call → View
-after v (Reserve n) = reserve v n .view
-after v (Row n es) = rowOf v n es .view
+abbrev pub afterCall : View → Call → View
+afterCall v (Reserve n) = reserve v n .view
+afterCall v (Row n es) = rowOf v n es .view
+
+-- the same of every call of the list, a text call's as the definition of that call gives them
+abbrev pub refuses : View → Item → Bool
+refuses v (Plain k) = refusesCall v k
+refuses v (Text a n es) = isRefusal (textOn v a n es .refusal)
+
+abbrev pub after : View → Item → View
+after v (Plain k) = afterCall v k
+after v (Text a n es) = textOn v a n es .view
 
 -- the shape of a row call; a reserving call has none
 abbrev pub shapeOf : View → Call → RowShape
@@ -63,9 +99,11 @@ ours q =
     record {
       State = View;
       columns = λ v. v .columns;
+      Item = Item;
+      call = callOf;
       refuses = refuses;
       after = after;
-      node = λ v k. shapeOf v k .«node_column»;
-      head = λ v k. headLine q (shapeOf v k);
-      foot = λ v k. footLine q (shapeOf v k);
+      node = λ v k. shapeOf v (callOf k) .«node_column»;
+      head = λ v k. headLine q (shapeOf v (callOf k));
+      foot = λ v k. footLine q (shapeOf v (callOf k));
     }

@@ -21,8 +21,17 @@ use Rattle.shaper.specs.Shaper.{heightLimit, View, newShaper}
 use Rattle.shaper.specs.NodeColumn.{dense, nodeColumn}
 use Rattle.placing.specs.Placing.{placeAt, place}
 use Rattle.row_shape.specs.Row.{RowReply, rowChecks, row}
+use Rattle.glyphs.specs.declared.Renderer.{Renderer}
+use Rattle.glyphs.specs.declared.Renderer.the-variants.{Ascii, AsciiLarge, Square, Curved, Dec}
+use Rattle.glyphs.specs.Cells.{choiceOf, bytesOf, glyphsOf}
+use Rattle.text.specs.Text.{text}
 use Rattle.marked.specs.Marked.{plain, rowOf}
+use Rattle.marked.specs.Pages.{HistoryRow, newText, pageFrom}
 use Rattle.marked.proofs.Holding.{Holds, Where, away, there, findIs, named, row-holds}
+
+-- a row without a message
+abbrev made : ℕ → List Entry → HistoryRow
+made n es = record { node = n; entries = es; message = [] }
 
 accepted-first : (v : View) (n : ℕ) → v .columns ≡ [] → v .previous ≡ Nothing → (b : Bool) → dense v ≡ b → row v n false [] .refusal ≡ 0
 unfolding row place
@@ -43,6 +52,15 @@ new-accepts o n = go (ltb heightLimit (o .«min_row_height»)) refl
 
     go : (b : Bool) → ltb heightLimit (o .«min_row_height») ≡ b → row (newShaper o .view) n false [] .refusal ≡ 0
     go b q = accepted-first (newShaper o .view) n (columns b q) (previous b q) (dense (newShaper o .view)) refl
+
+-- two histories have different pages in every renderer: a build made from another directly, and indirectly
+pub pages-differ : (q : Renderer) → pageFrom plain newText q 0x6f 30 (made 5 (Parent 7 ∷ []) ∷ []) ≢ pageFrom plain newText q 0x6f 30 (made 5 (Ancestor 7 ∷ []) ∷ [])
+unfolding row place text choiceOf bytesOf glyphsOf
+pages-differ Ascii e = let z : _≡_ {A = ℕ} 2 4 = ap length e in omega (arith, z)
+pages-differ AsciiLarge e = let z : _≡_ {A = ℕ} 2 4 = ap length e in omega (arith, z)
+pages-differ Square e = let z : _≡_ {A = ℕ} 2 5 = ap length e in omega (arith, z)
+pages-differ Curved e = let z : _≡_ {A = ℕ} 2 6 = ap length e in omega (arith, z)
+pages-differ Dec e = let z : _≡_ {A = ℕ} 2 11 = ap length e in omega (arith, z)
 
 -- two rows have different shapes: one parent and two parents of the same node on the same shaper
 pub shapes-differ : rowOf plain 5 (Parent 7 ∷ []) .shape ≢ rowOf plain 5 (Parent 7 ∷ Parent 8 ∷ []) .shape

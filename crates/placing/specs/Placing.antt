@@ -36,7 +36,7 @@ heldBy Anonymous cs = Nothing
 abbrev pub spot : ℕ → Entry → List Column → ℕ
 spot c e cs = orElse (heldBy e cs) (orElse (findEmpty c cs) (length cs))
 
--- "a held id merges into its column", any other into a free one: the column after it
+-- the columns after an entry "merges into its column", its id's or another
 abbrev pub enter : ℕ → Entry → List Column → List Column
 enter c e cs = put cs (spot c e cs) (merge (at cs (spot c e cs)) (columnOf e))
 
@@ -55,7 +55,7 @@ gaveUp c [] cs = Nothing
 gaveUp c (e ∷ []) cs = cond (ltb c (spot c e cs)) (At (spot c e cs)) Nothing
 gaveUp c (e ∷ f ∷ es) cs = Nothing
 
--- the columns after it: "swaps columns with it"
+-- the columns after the swap: "swaps columns with it"
 abbrev pub swapped : Found → ℕ → List Column → List Column
 swapped Nothing c cs = cs
 swapped (At p) c cs = swap c p cs

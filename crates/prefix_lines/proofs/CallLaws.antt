@@ -23,7 +23,7 @@ use Rattle.glyphs.proofs.JoinLaws.{joins-short}
 use Rattle.glyphs.proofs.TableLaws.{glyph-short}
 use Rattle.prefix_lines.specs.declared.Written.{Written}
 use Rattle.prefix_lines.specs.Inner.{lineText, linesText}
-use Rattle.prefix_lines.specs.PrefixLines.{letter, lineBytes, linesBytes, refusal, answerOf, nextPrefixLines}
+use Rattle.prefix_lines.specs.PrefixLines.{letter, lineBytes, linesBytes, answerOf, nextPrefixLines}
 use Rattle.prefix_lines.proofs.LineLaws.{line-within}
 
 -- ---- the bytes of the lines that a row has, line by line over all nine

@@ -1,12 +1,13 @@
 -- The renderer call (01, "Added by us" and "Where a call turns back"): the bytes of its lines, and the answer.
 use Prim.Native.Nat.{ℕ, zero, suc}
-use mathlib.Core.Bool.{Bool, cond, _||_}
+use mathlib.Core.Bool.{_||_}
 use mathlib.Core.List.{List, [], _∷_, _++_}
 use lib.Dec.{ltb}
 use lib.ListN.{length}
 use Rattle.column.specs.Columns.{columnLimit}
 use Rattle.render.specs.declared.types.DashStyle.{DashStyle}
 use Rattle.render.specs.declared.types.RowShape.{RowShape}
+use Rattle.render.specs.Refusals.{Check, _when_, refusal}
 use Rattle.glyphs.specs.declared.Renderer.{Renderer}
 use Rattle.glyphs.specs.declared.types.Line.{Line}
 use Rattle.glyphs.specs.declared.types.Line.the-variants.{PreNode, Node, PostNode, Link, SecondLink, Term, SecondTerm, Ancestry, PostAncestry}
@@ -34,19 +35,13 @@ lineBytes q d mark l = letter (l .kind) ∷ (joinsFrom (bytesOf (glyphsOf q) q d
 unfoldable pub linesBytes : Renderer → RowShape → ℕ → List ℕ
 linesBytes q g mark = joins (lineBytes q (g .style .«dash_style») mark) (lines q g)
 
--- the first check that holds gives its number; where none does, 0
-abbrev pub firstOf : List (ℕ × Bool) → ℕ
-firstOf [] = 0
-firstOf (k ∷ ks) = cond (k .1) (k .0) (firstOf ks)
-
 -- the renderer's rows of 01's table, in their order
-abbrev pub refusal : RowShape → Renderer → ℕ → List ℕ → ℕ
-refusal g q mark out =
-    firstOf
-    ((5, ltb mark 0x21 || ltb 0x7e mark)
-    ∷ (12, ltb columnLimit (g .width))
-    ∷ (8, ltb (length out) (length (linesBytes q g mark)))
-    ∷ [])
+abbrev pub checks : RowShape → Renderer → ℕ → List ℕ → List Check
+checks g q mark out =
+    (5 when (ltb mark 0x21 || ltb 0x7e mark))
+    ∷ (12 when ltb columnLimit (g .width))
+    ∷ (8 when ltb (length out) (length (linesBytes q g mark)))
+    ∷ []
 
 -- what a call gives: the refusal, the length, and the output afterwards
 pub record Answer : Type 0 where
@@ -64,4 +59,4 @@ answered (suc n) bs out = record { refusal = suc n; length = 0; output = out }
 
 -- the renderer call
 abbrev pub nextPrefixLines : RowShape → Renderer → ℕ → List ℕ → Answer
-nextPrefixLines g q mark out = answered (refusal g q mark out) (linesBytes q g mark) out
+nextPrefixLines g q mark out = answered (refusal (checks g q mark out)) (linesBytes q g mark) out

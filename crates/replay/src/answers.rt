@@ -1,4 +1,6 @@
 // The lines that answer each command.
+use crate::codes;
+use crate::input::part;
 use crate::page;
 use crate::page::Page;
 use crate::printer::Buffer;
@@ -6,6 +8,7 @@ use crate::printer::Printer;
 use crate::printer::put;
 use crate::printer::put_comma;
 use crate::printer::put_named;
+use crate::printer::put_number;
 use crate::run::Answer;
 use crate::run::Reply;
 use crate::shapes::put_shape;
@@ -17,6 +20,7 @@ use column::COLUMN_LIMIT;
 use column::Column;
 use column::Found;
 use column::Slot;
+use output::TextState;
 use render::RowShape;
 use shaper::HEIGHT_LIMIT;
 use shaper::Shaper;
@@ -119,9 +123,28 @@ fn put_shaper(out: &mut Buffer, printer: Printer, shaper: Shaper) -> Printer {
     put(out, whole, b"\n")
 }
 
-// The text state's line, which no command changes yet.
-fn put_text_state(out: &mut Buffer, printer: Printer) -> Printer {
-    put(out, printer, b"state queued=no row_height=0\n")
+// `COUNT:BYTES`
+fn put_bytes(out: &mut Buffer, printer: Printer, bytes: &[u8]) -> Printer {
+    let count = put_number(out, printer, bytes.len() as u64);
+    let colon = put(out, count, b":");
+    put(out, colon, bytes)
+}
+
+// The queued line, or `no`. A length beyond the limit is read as the limit.
+fn put_queue(out: &mut Buffer, printer: Printer, text: TextState) -> Printer {
+    if !text.is_queued {
+        return put(out, printer, b"no");
+    }
+    let line = text.queued_pad_line;
+    let length = codes::queue_length(text.queued_length);
+    put_bytes(out, printer, part(&line, 0, length))
+}
+
+// The text state's line.
+fn put_text_state(out: &mut Buffer, printer: Printer, text: TextState) -> Printer {
+    let named = put(out, printer, b"state queued=");
+    let queue = put_queue(out, named, text);
+    put_line(out, queue, b" row_height=", text.row_height as u64)
 }
 
 // A line of a name and a number.
@@ -173,9 +196,8 @@ fn put_width(out: &mut Buffer, printer: Printer, refusal: u8, width: u64) -> Pri
 
 // `out COUNT:BYTES`
 fn put_out(out: &mut Buffer, printer: Printer, bytes: &[u8]) -> Printer {
-    let named = put_named(out, printer, b"out ", bytes.len() as u64);
-    let colon = put(out, named, b":");
-    let whole = put(out, colon, bytes);
+    let named = put(out, printer, b"out ");
+    let whole = put_bytes(out, named, bytes);
     put(out, whole, b"\n")
 }
 
@@ -192,11 +214,36 @@ fn put_renderer(
     put_out(out, line, output)
 }
 
+// `text REFUSAL LENGTH MEASURE`, then the output, the shaper and the text state.
+fn put_text(
+    out: &mut Buffer,
+    printer: Printer,
+    refusal: u8,
+    length: u64,
+    measure: u64,
+    output: &[u8],
+    shaper: Shaper,
+    text: TextState,
+) -> Printer {
+    let named = put_named(out, printer, b"text ", refusal as u64);
+    let long = put_named(out, named, b" ", length);
+    let line = put_line(out, long, b" ", measure);
+    let written = put_out(out, line, output);
+    let after = put_shaper(out, written, shaper);
+    put_text_state(out, after, text)
+}
+
 // `repeated TIMES`, then the shaper and the text state.
-fn put_repeated(out: &mut Buffer, printer: Printer, times: u32, shaper: Shaper) -> Printer {
+fn put_repeated(
+    out: &mut Buffer,
+    printer: Printer,
+    times: u32,
+    shaper: Shaper,
+    text: TextState,
+) -> Printer {
     let line = put_line(out, printer, b"repeated ", times as u64);
     let after = put_shaper(out, line, shaper);
-    put_text_state(out, after)
+    put_text_state(out, after, text)
 }
 
 // All lines of a command's reply.
@@ -204,6 +251,7 @@ pub(crate) fn put_reply(out: &mut Buffer, printer: Printer, page: &Page, reply: 
     let state = reply.state;
     let shaper = state.shaper;
     let shape = state.shape;
+    let text = state.text;
     let answer = reply.answer;
     match answer {
         Answer::NotBuilt => put_not_built(out, printer),
@@ -215,8 +263,13 @@ pub(crate) fn put_reply(out: &mut Buffer, printer: Printer, page: &Page, reply: 
         Answer::Renderer(refusal, length, room) => {
             put_renderer(out, printer, refusal, length, page::output(page, room))
         }
+        Answer::Text(refusal, length, measure, room) => {
+            let output = page::output(page, room);
+            put_text(out, printer, refusal, length, measure, output, shaper, text)
+        }
         Answer::Shaper => put_shaper(out, printer, shaper),
+        Answer::TextState => put_text_state(out, printer, text),
         Answer::Shape => put_shape(out, printer, shape),
-        Answer::Repeated(times) => put_repeated(out, printer, times, shaper),
+        Answer::Repeated(times) => put_repeated(out, printer, times, shaper, text),
     }
 }

@@ -1,5 +1,6 @@
 // What the codes of a payload stand for.
 use crate::input::after;
+use crate::input::copy;
 use crate::input::flag_at;
 use crate::input::u8_at;
 use crate::input::u16_at;
@@ -10,6 +11,8 @@ use column::Column;
 use column::Found;
 use column::Slot;
 use glyphs::Renderer;
+use output::QUEUE_LIMIT;
+use output::TextState;
 use render::Ancestor;
 use render::Cell;
 use render::DashStyle;
@@ -147,6 +150,12 @@ pub(crate) fn entries_at(payload: &[u8], at: usize) -> Entries {
     entries
 }
 
+// Where the entries at a place end.
+pub(crate) fn entries_end(payload: &[u8], at: usize) -> usize {
+    let given = u16_at(payload, at) as usize;
+    after(at, 2 + ENTRY * given)
+}
+
 // The entries at a place, if there are any: flag, entries. Absent ones are none.
 pub(crate) fn optional_entries_at(payload: &[u8], at: usize) -> Entries {
     if flag_at(payload, at) {
@@ -171,6 +180,33 @@ pub(crate) fn renderer(code: u8) -> Renderer {
         2 => Renderer::Square,
         3 => Renderer::Curved,
         _ => Renderer::Dec,
+    }
+}
+
+// The lesser of a length and the queued line's greatest.
+pub(crate) fn queue_length(length: usize) -> usize {
+    if QUEUE_LIMIT < length {
+        return QUEUE_LIMIT;
+    }
+    length
+}
+
+// The queued line at a place: how many bytes are given, then those. Bytes not given are 0.
+fn queue_at(payload: &[u8], at: usize) -> [u8; QUEUE_LIMIT] {
+    let given = u16_at(payload, at) as usize;
+    let mut queue = [0u8; QUEUE_LIMIT];
+    copy(payload, after(at, 2), &mut queue, given);
+    queue
+}
+
+// The text state at the payload's beginning: queued (at 0), queued length (1), row height (9), queued line (17).
+pub(crate) fn text_state(payload: &[u8]) -> TextState {
+    let queued_pad_line = queue_at(payload, 17);
+    TextState {
+        queued_pad_line,
+        queued_length: u64_at(payload, 1) as usize,
+        is_queued: flag_at(payload, 0),
+        row_height: u64_at(payload, 9) as usize,
     }
 }
 

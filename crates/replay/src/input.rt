@@ -53,6 +53,15 @@ pub(crate) fn part(bytes: &[u8], from: usize, to: usize) -> &[u8] {
     &bytes[from..to]
 }
 
+// Copies so many bytes from a place on, 0 past the end, to the front of `to`, as far as they fit.
+pub(crate) fn copy(bytes: &[u8], from: usize, to: &mut [u8], count: usize) {
+    let mut i: usize = 0;
+    while i < to.len() && i < count {
+        to[i] = u8_at(bytes, after(from, i));
+        i += 1;
+    }
+}
+
 // Where the command at a place ends: the place itself if the bytes end within it.
 pub(crate) fn command_end(bytes: &[u8], at: usize) -> usize {
     if bytes.len() <= at {

@@ -1,13 +1,27 @@
-// The page: the output that a renderer call writes to. It is lent to every command, and filled anew before each call.
+// The page: the output that a renderer call or a text call writes to. It is lent to every command, and filled anew before each call.
 use glyphs::Renderer;
+use output::TextState;
 use prefix_lines::Written;
+use render::Entries;
 use render::RowShape;
+use shaper::Shaper;
+use text::TextAnswer;
 
 // The page's length.
 pub(crate) const ROOM: usize = 300000;
 
 // The page.
 pub(crate) type Page = [u8; ROOM];
+
+// What a text call is given beside the message and the output.
+pub(crate) struct Text {
+    pub(crate) shaper: Shaper,
+    pub(crate) state: TextState,
+    pub(crate) renderer: Renderer,
+    pub(crate) node: u32,
+    pub(crate) entries: Entries,
+    pub(crate) mark: u8,
+}
 
 // The first byte before a call, and the greatest.
 const FIRST: u8 = 0xa0;
@@ -48,6 +62,33 @@ pub(crate) fn draw(
         return draw_on(page, shape, renderer, mark);
     }
     draw_on(&mut page[0..length], shape, renderer, mark)
+}
+
+// Fills an output and makes a text call on it.
+fn write_on(output: &mut [u8], text: Text, message: &[u8]) -> TextAnswer {
+    fill(output);
+    let shaper = text.shaper;
+    let state = text.state;
+    let renderer = text.renderer;
+    let entries = text.entries;
+    text::write_next_text(
+        shaper,
+        state,
+        renderer,
+        text.node,
+        entries,
+        text.mark,
+        message,
+        output,
+    )
+}
+
+// Makes a text call on an output of this length, at most the page.
+pub(crate) fn write(page: &mut [u8], length: usize, text: Text, message: &[u8]) -> TextAnswer {
+    if page.len() < length {
+        return write_on(page, text, message);
+    }
+    write_on(&mut page[0..length], text, message)
 }
 
 // The output of this length, at most the page.

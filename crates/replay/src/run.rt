@@ -4,20 +4,26 @@ use crate::input;
 use crate::input::HEADER;
 use crate::page;
 use crate::page::Page;
+use crate::page::Text;
+use output::TextState;
 use render::Entries;
 use render::Options;
 use render::RowShape;
 use shaper::HEIGHT_LIMIT;
 use shaper::Shaper;
 
+// The greatest length of a message in a payload.
+const MESSAGE: usize = 65535;
+
 // What the commands work on.
 pub(crate) struct State {
     pub(crate) shaper: Shaper,
     pub(crate) shape: RowShape,
+    pub(crate) text: TextState,
 }
 
-// What a command answers, beside the state that it leaves. The calls give their refusal's number. A renderer call leaves
-// its output on the page, and gives the output's length last.
+// What a command answers, beside the state that it leaves. The calls give their refusal's number. A renderer call and a
+// text call leave their output on the page, and give the output's length last; in front of it, a text call gives the measure.
 pub(crate) enum Answer {
     NotBuilt,
     List(u32),
@@ -26,7 +32,9 @@ pub(crate) enum Answer {
     Row(u8),
     Width(u8, u64),
     Renderer(u8, u64, usize),
+    Text(u8, u64, u64, usize),
     Shaper,
+    TextState,
     Shape,
     Repeated(u32),
 }
@@ -38,7 +46,8 @@ pub(crate) struct Reply {
 }
 
 impl State {
-    // The state at the beginning of a stream or a list: the shaper and the shape are those that refused calls give.
+    // The state at the beginning of a stream or a list: the shaper and the shape are those that refused calls give, the text
+    // state that of an empty payload.
     pub(crate) fn new() -> State {
         let graph_row_shape_style = codes::style(0, 0);
         let too_high = Options {
@@ -52,7 +61,12 @@ impl State {
         entries.too_many = true;
         let refused_row = row_shape::next_row_shape(shaper, 0, entries);
         let shape = refused_row.shape;
-        State { shaper, shape }
+        let text = codes::text_state(b"");
+        State {
+            shaper,
+            shape,
+            text,
+        }
     }
 }
 
@@ -102,7 +116,9 @@ fn row(payload: &[u8], state: State) -> Reply {
     let answer = Answer::Row(given.refusal);
     let shaper = given.shaper;
     let shape = given.shape;
-    let after = State { shaper, shape };
+    let mut after = state;
+    after.shaper = shaper;
+    after.shape = shape;
     Reply {
         answer,
         state: after,
@@ -129,6 +145,60 @@ fn render(payload: &[u8], page: &mut Page, state: State) -> Reply {
     Reply { answer, state }
 }
 
+// `T`, its message taken out: renderer (at 0), mark (1), output length (2), node (6), entries (10).
+fn text_with(payload: &[u8], message: &[u8], page: &mut Page, state: State) -> Reply {
+    let shaper = state.shaper;
+    let before = state.text;
+    let renderer = codes::renderer(input::u8_at(payload, 0));
+    let entries = codes::entries_at(payload, 10);
+    let text = Text {
+        shaper,
+        state: before,
+        renderer,
+        node: input::u32_at(payload, 6),
+        entries,
+        mark: input::u8_at(payload, 1),
+    };
+    let room = input::u32_at(payload, 2) as usize;
+    let given = page::write(page, room, text, message);
+    let length = given.length as u64;
+    let answer = Answer::Text(given.refusal, length, given.measure as u64, room);
+    let shaper_then = given.shaper;
+    let text_then = given.state;
+    let mut after = state;
+    after.shaper = shaper_then;
+    after.text = text_then;
+    Reply {
+        answer,
+        state: after,
+    }
+}
+
+// `T`, where the payload ends within a message of so many bytes, which begins at a place: the bytes past the end are 0.
+fn text_with_zeros(
+    payload: &[u8],
+    at: usize,
+    count: usize,
+    page: &mut Page,
+    state: State,
+) -> Reply {
+    let mut message = [0u8; MESSAGE];
+    input::copy(payload, at, &mut message, count);
+    text_with(payload, input::part(&message, 0, count), page, state)
+}
+
+// `T`: what stands in front of the message, then its length and bytes.
+fn text(payload: &[u8], page: &mut Page, state: State) -> Reply {
+    let at = codes::entries_end(payload, 10);
+    let count = input::u16_at(payload, at) as usize;
+    let start = input::after(at, 2);
+    let end = input::after(start, count);
+    if payload.len() < end {
+        return text_with_zeros(payload, start, count, page, state);
+    }
+    text_with(payload, input::part(payload, start, end), page, state)
+}
+
 // `S`: count (at 0), previous (8), options (17), slots (28).
 fn set_shaper(payload: &[u8], state: State) -> Reply {
     let slots = codes::slots_at(payload, 28);
@@ -144,6 +214,18 @@ fn set_shaper(payload: &[u8], state: State) -> Reply {
     let mut after = state;
     after.shaper = shaper;
     let answer = Answer::Shaper;
+    Reply {
+        answer,
+        state: after,
+    }
+}
+
+// `Q`: text state.
+fn set_text_state(payload: &[u8], state: State) -> Reply {
+    let text = codes::text_state(payload);
+    let mut after = state;
+    after.text = text;
+    let answer = Answer::TextState;
     Reply {
         answer,
         state: after,
@@ -177,7 +259,9 @@ fn call(letter: u8, payload: &[u8], page: &mut Page, state: State) -> Reply {
         b'W' => row(payload, state),
         b'V' => width(payload, state),
         b'P' => render(payload, page, state),
+        b'T' => text(payload, page, state),
         b'S' => set_shaper(payload, state),
+        b'Q' => set_text_state(payload, state),
         b'H' => set_shape(payload, state),
         _ => not_built(state),
     }

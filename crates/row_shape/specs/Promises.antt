@@ -1,4 +1,4 @@
--- What the row call promises.
+-- The promise of the row call.
 use Prim.Native.Nat.{ℕ, _≤_}
 use mathlib.Core.Path.{_≡_}
 use Rattle.column.specs.Columns.{columnLimit, SpareEmpty}
@@ -10,11 +10,12 @@ use Rattle.render.specs.Refusals.{refusal}
 use Rattle.shaper.specs.Shaper.{viewOf}
 use Rattle.row_shape.specs.Row.{RowReply, row}
 
--- what the row call promises: what the definition says; a refusal leaves the struct itself as it was; else the raw count is at most 64;
--- the options stay; slots past the count stay Empty if they were
+-- what the row call gave, in the definition's words
 abbrev pub rowReplyOf : RowAnswer → RowReply
 rowReplyOf r = record { refusal = r .refusal; shape = r .shape; view = viewOf (r .shaper) }
 
+-- what the row call promises: what the definition says; a refusal leaves the struct itself as it was; else the raw count is at most 64;
+-- the options stay; slots past the count stay Empty if they were
 pub record Rows (s : Shaper) (n : ℕ) (es : Entries) (r : RowAnswer) : Type 0 where
   pub reply : rowReplyOf r ≡ row (viewOf s) n (tooMany es) (listed es)
   pub refused : (r .refusal ≡ 0 → ⊥) → r .shaper ≡ s

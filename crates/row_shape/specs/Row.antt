@@ -77,7 +77,7 @@ pub record RowReply : Type 0 where
   pub shape : RowShape
   pub view : View
 
--- "row .. 3 more than 32 entries", "4 node line would have more than 64 cells"
+-- the table's rows for row: 3 "more than 32 entries", 4 "node line would have more than 64 cells"
 abbrev pub rowChecks : Bool → Placed → List Check
 rowChecks many p = (3 when many) ∷ (4 when ltb columnLimit (length (p .walked))) ∷ []
 

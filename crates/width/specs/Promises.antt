@@ -1,4 +1,4 @@
--- What the width call promises, and what its loops count.
+-- The promise of the width call, and what one of its loops counts.
 use mathlib.Core.Path.{_≡_}
 use mathlib.Core.Bool.{Bool}
 use mathlib.Core.List.{List}

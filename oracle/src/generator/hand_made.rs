@@ -1,6 +1,7 @@
 //! States and shapes set by hand, also such as no call leads to.
 
 use super::Generator;
+use crate::calls;
 use crate::refusals;
 use crate::stream::Cell;
 use crate::stream::HandShape;
@@ -8,24 +9,21 @@ use crate::stream::HandShaper;
 use crate::stream::HandState;
 use crate::stream::Slot;
 
-/// What may stand at the end of a queued line: white space that the crate trims, and other characters that it does not.
-const QUEUE_ENDS: [&str; 12] = [
+/// What may stand at the end of a queued line: blanks, and characters that are not trimmed.
+const QUEUE_ENDS: [&str; 9] = [
     "",
     "",
     "",
     " ",
     "   ",
-    "\t",
-    " \r",
-    "\x0b\x0c",
-    "\u{a0}",
-    "\u{2003} ",
     "\u{200b}",
+    "\u{200b} ",
     "\x1b(B",
+    "\x1b(B  ",
 ];
 
-/// Parts of a queued line.
-const QUEUE_PARTS: [&str; 9] = [
+/// Parts of a queued line. White space other than blanks never ends it.
+const QUEUE_PARTS: [&str; 11] = [
     "  ",
     "| ",
     "\u{2502} ",
@@ -33,7 +31,9 @@ const QUEUE_PARTS: [&str; 9] = [
     "~ ",
     "a",
     "\x1b(0x \x1b(B",
-    "\t",
+    "\t~",
+    " \r\x0b\x0ca ",
+    "\u{a0}\u{2003}| ",
     "   ",
 ];
 
@@ -114,36 +114,55 @@ impl Generator<'_> {
         }
     }
 
-    /// A text state set by hand. Its queued line is UTF-8, since the crate holds no other.
+    /// A text state set by hand. Where its queued line, cut at the length, would be one that is not compared, the line is whole.
     pub fn hand_state(&mut self) -> HandState {
         let bytes = self.queue();
-        let given = bytes.len() as u64;
-        let length = match self.random.weighted(&[12, 3, 1]) {
-            0 => given,
-            1 => given + self.random.below(4),
-            _ => self.random.pick(&[0, 512, 513, 1 << 32, u64::MAX]),
-        };
-        HandState {
+        let whole = bytes.len() as u64;
+        let mut state = HandState {
             queued: self.random.pick(&[0, 1, 1, 1, 7]),
-            length,
+            length: self.queued_length(whole),
             row_height: self
                 .random
                 .pick(&[0, 1, 1, 1, 2, 3, 16, 1 << 32, u64::MAX - 1, u64::MAX]),
             bytes,
+        };
+        if !calls::hand_state(&state).is_compared() {
+            state.length = whole;
+        }
+        state
+    }
+
+    /// The length of a queued line with so many bytes given: those, some more, fewer, or one at the array's end or beyond it.
+    fn queued_length(&mut self, given: u64) -> u64 {
+        let long = if given < 500 { 1 } else { 20 };
+        match self.random.weighted(&[12, 3, 3, long]) {
+            0 => given,
+            1 => given + self.random.below(4),
+            2 => self.random.below(given + 1),
+            _ => self.random.pick(&[511, 512, 513, 1 << 32, u64::MAX]),
         }
     }
 
     /// The bytes of a queued line.
     fn queue(&mut self) -> Vec<u8> {
-        if self.random.once_in(12) {
-            let character = self.random.pick(b"ab ");
-            return vec![character; self.random.pick(&[510, 511, 512, 512, 514])];
+        if self.random.once_in(8) {
+            return self.long_queue();
         }
         let mut line: String = (0..self.random.below(9))
             .map(|_| self.random.pick(&QUEUE_PARTS))
             .collect();
         line.push_str(self.random.pick(&QUEUE_ENDS));
         line.into_bytes()
+    }
+
+    /// A queued line about as long as its array, which ends in blanks or not.
+    fn long_queue(&mut self) -> Vec<u8> {
+        let character = self.random.pick(b"aaab ");
+        let mut line = vec![character; self.random.pick(&[510, 511, 512, 512, 514])];
+        let blanks = self.random.pick(&[0, 0, 1, 3, 200]);
+        let end = line.len().min(calls::QUEUE);
+        line[end - blanks..end].fill(b' ');
+        line
     }
 
     /// A shape set by hand.

@@ -1,0 +1,174 @@
+-- Laws of lines and of blanks at a line's end, for any bytes.
+use mathlib.Core.Path.{_≡_, refl, sym, ap, _∙_}
+use mathlib.Core.Bool.{Bool, true, false, cond}
+use mathlib.Core.List.{List, [], _∷_, _++_}
+use Prim.Native.Nat.{ℕ, zero, suc, _+_, _-_, _<_, _≤_, min}
+use native.Mathlib.Nat.{not-suc-le-zero}
+use native.Mathlib.Numerals.{add-one}
+use native.Mathlib.Omega.{arith}
+use lib.Dec.{eqb, ltb, lit≤}
+use lib.ListN.{length, take, drop, getD, drop-of-length-le, length-append, length-drop, length-take}
+use lib.Seq.{drop-cons, take-suc, length-take-le, drop-drop}
+use borrow.Author.Tests.{eq-eqb, ne-eqb, ltb-true, ltb-false}
+use Rattle.message.specs.Message.{allOf, onto, linesOf, lineLength, firstLine, otherLines, trimEnd, keepLast}
+
+abbrev First-apart : List ℕ → Type 0
+First-apart m = linesOf m ≡ firstLine m ∷ linesOf (otherLines m)
+
+-- the lines of what is not empty are the first one and the others
+pub lines-next : (m : List ℕ) → 0 < length m → linesOf m ≡ firstLine m ∷ linesOf (otherLines m)
+lines-next [] h = absurd (not-suc-le-zero h)
+lines-next (x ∷ xs) h = by-case x xs (eqb x 0x0a) refl (lines-next xs)
+  where
+    by-case : (x : ℕ) (ys : List ℕ) (b : Bool) → eqb x 0x0a ≡ b → (0 < length ys → First-apart ys) → First-apart (x ∷ ys)
+    by-case x ys true e r = rw e refl
+    by-case x [] false e r = rw e refl
+    by-case x (y ∷ ys) false e r = rw (e, r (omega arith)) refl
+
+-- ---- a search for a byte that fails a test
+module _ (t : ℕ → Bool) (s : List ℕ) (i : ℕ) (e : allOf t s ≡ allOf t (drop i s)) where
+  pub all-miss : {x : Bool} → i < length s → x ≡ t (getD s i 0) → x ≡ false → false ≡ allOf t s
+  all-miss h f g = sym (e ∙ rw (drop-cons s i 0, ← f, g) refl)
+
+  pub all-next : {x : Bool} → i < length s → x ≡ t (getD s i 0) → x ≡ true → allOf t s ≡ allOf t (drop (i + 1) s)
+  all-next h f g = e ∙ rw (drop-cons s i 0, ← f, g, add-one i) refl
+
+  pub all-done : length s ≤ i → true ≡ allOf t s
+  all-done h = sym (e ∙ rw (drop-of-length-le s h) refl)
+
+-- ---- a search for the line's end
+module _ (s : List ℕ) (e : ℕ) where
+  pub length-more : e < length s → (getD s e 0 ≡ 0x0a → ⊥) → lineLength (drop e s) ≡ suc (lineLength (drop (e + 1) s))
+  length-more h n = rw (add-one, drop-cons s e 0, ne-eqb (getD s e 0) 0x0a n) refl
+
+  pub length-here : e < length s → getD s e 0 ≡ 0x0a → lineLength (drop e s) ≡ 0
+  length-here h q = rw (drop-cons s e 0, eq-eqb (getD s e 0) 0x0a q) refl
+
+  pub length-past : length s ≤ e → lineLength (drop e s) ≡ 0
+  length-past h = rw (drop-of-length-le s h) refl
+
+pub line-within : (s : List ℕ) → lineLength s ≤ length s
+line-within [] = lit≤ tt
+line-within (x ∷ xs) = by-test (eqb x 0x0a) (line-within xs)
+  where
+    by-test : (b : Bool) → lineLength xs ≤ length xs → cond b 0 (suc (lineLength xs)) ≤ suc (length xs)
+    by-test true h = omega arith
+    by-test false h = omega arith
+
+-- what is behind the line at a place is what is behind the line's end
+pub behind : (s : List ℕ) (a : ℕ) → otherLines (drop a s) ≡ drop (suc (a + lineLength (drop a s))) s
+behind s a = drop-drop (suc (lineLength (drop a s))) a s ∙ ap (λ (k : ℕ). drop k s) (reach a (lineLength (drop a s)))
+  where
+    reach : (a b : ℕ) → a + suc b ≡ suc (a + b)
+    reach a b = omega arith
+
+-- nothing is behind the end
+pub drop-capped : (s : List ℕ) (k : ℕ) → drop (min k (length s)) s ≡ drop k s
+drop-capped s k = go (ltb k (length s)) refl
+  where
+    go : (b : Bool) → ltb k (length s) ≡ b → drop (min k (length s)) s ≡ drop k s
+    go true e =
+        let h : k < length s = ltb-true k (length s) e in
+        let m : min k (length s) ≡ k = omega arith in
+        ap (λ (n : ℕ). drop n s) m
+    go false e =
+        let h : length s ≤ k = ltb-false k (length s) e in
+        let m : length s ≤ min k (length s) = omega arith in
+        drop-of-length-le s m ∙ sym (drop-of-length-le s h)
+
+-- no line is left
+pub none-left : (s : List ℕ) (a : ℕ) → length s ≤ a → length (linesOf (drop a s)) ≡ 0
+none-left s a h = rw (drop-of-length-le s h) refl
+
+-- one line more was counted
+pub count-next : (s : List ℕ) (a n e : ℕ) → a < length s → e ≡ a + lineLength (drop a s) → n ≡ min (suc e) (length s)
+    → length (linesOf (drop a s)) ≡ suc (length (linesOf (drop n s)))
+count-next s a n e h q d =
+    let p : 0 < length (drop a s) = rw (length-drop a s) (omega arith) in
+    ap length (lines-next (drop a s) p)
+    ∙ ap (λ (l : List ℕ). suc (length (linesOf l))) (behind s a ∙ ap (λ (k : ℕ). drop (suc k) s) (sym q) ∙ sym (ap (λ (k : ℕ). drop k s) d ∙ drop-capped s (suc e)))
+
+-- ---- blanks at the end
+
+-- one text behind another
+pub trim-front : (xs ys : List ℕ) → trimEnd ys ≡ [] → trimEnd (xs ++ ys) ≡ trimEnd xs
+trim-front [] ys e = e
+trim-front (x ∷ xs) ys e = ap (keepLast x) (trim-front xs ys e)
+
+pub keep-more : (x : ℕ) (ys : List ℕ) → 0 < length ys → keepLast x ys ≡ x ∷ ys
+keep-more x [] h = absurd (not-suc-le-zero h)
+keep-more x (y ∷ ys) h = refl
+
+pub trim-behind : (xs ys : List ℕ) → 0 < length (trimEnd ys) → trimEnd (xs ++ ys) ≡ xs ++ trimEnd ys
+trim-behind [] ys h = refl
+trim-behind (x ∷ xs) ys h =
+    ap (keepLast x) (trim-behind xs ys h) ∙ keep-more x (xs ++ trimEnd ys) (rw (length-append xs (trimEnd ys)) (omega arith))
+
+-- a blank, and another byte, at the end
+pub trim-blank : (xs : List ℕ) → trimEnd (xs ++ (0x20 ∷ [])) ≡ trimEnd xs
+trim-blank xs = trim-front xs (0x20 ∷ []) refl
+
+trim-other : (xs : List ℕ) (y : ℕ) → (y ≡ 0x20 → ⊥) → trimEnd (xs ++ (y ∷ [])) ≡ xs ++ (y ∷ [])
+trim-other xs y n =
+    let e : trimEnd (y ∷ []) ≡ y ∷ [] = rw (ne-eqb y 0x20 n) refl in
+    trim-behind xs (y ∷ []) (rw e (lit≤ tt)) ∙ ap (λ (l : List ℕ). xs ++ l) e
+
+-- ---- a search for the last byte that is no blank
+module _ (s : List ℕ) (n : ℕ) where
+  pub trim-less : 0 < n → n ≤ length s → getD s (n - 1) 0 ≡ 0x20 → trimEnd (take n s) ≡ trimEnd (take (n - 1) s)
+  trim-less z h q =
+      let e : n ≡ suc (n - 1) = omega arith in
+      let l : n - 1 < length s = omega arith in
+      ap (λ (k : ℕ). trimEnd (take k s)) e ∙ rw (take-suc s (n - 1) 0 l, q) (trim-blank (take (n - 1) s))
+
+  pub trim-here : 0 < n → n ≤ length s → (getD s (n - 1) 0 ≡ 0x20 → ⊥) → trimEnd (take n s) ≡ take n s
+  trim-here z h q =
+      let e : n ≡ suc (n - 1) = omega arith in
+      let l : n - 1 < length s = omega arith in
+      let t : take n s ≡ take (n - 1) s ++ (getD s (n - 1) 0 ∷ []) = ap (λ (k : ℕ). take k s) e ∙ take-suc s (n - 1) 0 l in
+      rw t (trim-other (take (n - 1) s) (getD s (n - 1) 0) q)
+
+  pub trimmed : n ≤ length s → trimEnd s ≡ trimEnd (take n s) → trimEnd (take n s) ≡ take n s
+      → (n ≡ length (trimEnd s)) × (take n s ≡ trimEnd s)
+  trimmed h p q = (sym (ap length (p ∙ q) ∙ length-take-le n s h), sym (p ∙ q))
+
+pub trim-none : (s : List ℕ) (n : ℕ) → n ≤ 0 → trimEnd (take n s) ≡ take n s
+trim-none s zero h = refl
+trim-none s (suc n) h = absurd (not-suc-le-zero h)
+
+-- what is left is a front
+pub trim-take : (s : List ℕ) → take (length (trimEnd s)) s ≡ trimEnd s
+trim-take [] = refl
+trim-take (x ∷ xs) = kept x (trimEnd xs) xs (trim-take xs)
+  where
+    kept : (x : ℕ) (t xs : List ℕ) → take (length t) xs ≡ t → take (length (keepLast x t)) (x ∷ xs) ≡ keepLast x t
+    kept x [] xs e = by-case (eqb x 0x20)
+      where
+        by-case : (b : Bool) → take (length (cond b [] (x ∷ []))) (x ∷ xs) ≡ cond b [] (x ∷ [])
+        by-case true = refl
+        by-case false = refl
+    kept x (y ∷ t) xs e = ap (λ (l : List ℕ). x ∷ l) e
+
+pub trim-length : (s : List ℕ) → length (trimEnd s) ≤ length s
+trim-length s = omega (arith, ap length (trim-take s), length-take (length (trimEnd s)) s)
+
+-- the length of one text behind another, trimmed
+pub trim-append : (xs ys : List ℕ)
+    → length (trimEnd (xs ++ ys)) ≡ cond (eqb (length (trimEnd ys)) 0) (length (trimEnd xs)) (length xs + length (trimEnd ys))
+trim-append xs ys = go (trimEnd ys) refl
+  where
+    go : (t : List ℕ) → trimEnd ys ≡ t → length (trimEnd (xs ++ ys)) ≡ cond (eqb (length t) 0) (length (trimEnd xs)) (length xs + length t)
+    go [] e = ap length (trim-front xs ys e)
+    go (y ∷ t) e =
+        let h : 0 < length (trimEnd ys) = rw e (omega arith) in
+        rw (trim-behind xs ys h, length-append xs (trimEnd ys), e, ne-eqb (suc (length t)) 0 (λ z. omega arith)) refl
+
+-- a message has no more lines than bytes
+pub lines-few : (m : List ℕ) → length (linesOf m) ≤ length m
+lines-few [] = lit≤ tt
+lines-few (b ∷ bs) = go (eqb b 0x0a) (linesOf bs) (lines-few bs)
+  where
+    go : (t : Bool) (ls : List (List ℕ)) → length ls ≤ length bs → length (cond t ([] ∷ ls) (onto b ls)) ≤ suc (length bs)
+    go true ls h = omega arith
+    go false [] h = omega arith
+    go false (l ∷ ls) h = omega arith

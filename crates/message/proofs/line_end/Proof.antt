@@ -1,0 +1,52 @@
+use Prim.Native.Nat.{_≤_, _+_, _-_}
+use mathlib.Core.Path.{_≡_}
+use native.Mathlib.Omega.{arith}
+use lib.ListN.{length, drop}
+use borrow.Author.Needs.{needs}
+use Rattle.message.specs.Message.{lineLength}
+use Rattle.message.proofs.MessageLaws.{length-more, length-here, length-past}
+use Rattle.message.proofs.line_end.Statement.{statement}
+use Rattle.message.proofs.line_end.Tie as tie
+
+abbrev Inv-loop : tie.InvT-loop
+Inv-loop message start end₀ end = (start ≤ end) × (start + lineLength (drop start message) ≡ end + lineLength (drop end message))
+
+abbrev μ-loop : tie.MeasureT-loop
+μ-loop message start end₀ end = length message - end
+
+loop-holds : tie.Need-loop-holds Inv-loop μ-loop
+loop-holds c = search needs
+
+shared-slice-read-if1 : tie.Need-shared-slice-read-if1 Inv-loop μ-loop
+shared-slice-read-if1 c = search needs
+
+returns : tie.Need-returns Inv-loop μ-loop
+returns c = let l = c .before .before .before .loop in omega (arith, length-here (c .before .before .before .before .args .message .now) (l .end) (search needs) (c .if1 .taken), l .inv .1)
+
+add-end : tie.Need-add-end Inv-loop μ-loop
+add-end c = search needs
+
+loop-less : tie.Need-loop-less Inv-loop μ-loop
+loop-less c = search needs
+
+loop-again : tie.Need-loop-again Inv-loop μ-loop
+loop-again c =
+    let l = c .before .before .before .loop in
+    (search needs, omega (arith, length-more (c .before .before .before .before .args .message .now) (l .end) (search needs) (c .if1 .left), l .inv .1))
+
+returns-2 : tie.Need-returns-2 Inv-loop μ-loop
+returns-2 c = let l = c .before .loop in omega (arith, length-past (c .before .before .args .message .now) (l .end) (search needs), l .inv .1)
+
+pub line-end-spec : {M : Type 1} → statement M
+line-end-spec =
+    tie.close
+    (tie.spec
+    Inv-loop
+    μ-loop
+    loop-holds
+    shared-slice-read-if1
+    returns
+    add-end
+    loop-less
+    loop-again
+    returns-2)

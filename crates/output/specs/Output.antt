@@ -1,0 +1,74 @@
+-- Lines of text, their bytes and their measure, and what is kept between rows (output.rs).
+use Prim.Native.Nat.{ℕ, _+_, _≤_, max}
+use mathlib.Core.Path.{_≡_}
+use mathlib.Core.Bool.{Bool, cond, _&&_}
+use mathlib.Core.List.{List, [], _∷_, _++_, map}
+use lib.Dec.{eqb}
+use lib.ListN.{length, take, drop}
+use Rattle.glyphs.specs.Joins.{joins}
+use Rattle.glyphs.specs.Characters.{newline}
+use Rattle.message.specs.Message.{trimEnd}
+use Rattle.output.specs.declared.TextState.{TextState}
+use Rattle.output.specs.declared.Put.{Put}
+
+-- the queue's array has eight bytes for each of 64 cells
+abbrev pub queueLimit : ℕ
+queueLimit = 512
+
+-- ---- lines
+
+-- what finishes a line: the blanks at its end go (`push_line`)
+abbrev pub finish : List ℕ → List ℕ
+finish l = trimEnd l
+
+-- a finished line with its end (`push_line`)
+abbrev pub ended : List ℕ → List ℕ
+ended l = l ++ (newline ∷ [])
+
+-- the bytes of finished lines, each with its end
+abbrev pub textOf : List (List ℕ) → List ℕ
+textOf ls = joins ended ls
+
+-- the measure of a finished line: "the byte length, line end not counted" (01, "Added by us")
+abbrev pub measureOf : List ℕ → ℕ
+measureOf l = length l
+
+-- the greatest of some numbers, 0 of none
+abbrev pub greatest : List ℕ → ℕ
+greatest [] = 0
+greatest (n ∷ ns) = max n (greatest ns)
+
+-- the line measure: "of the longest line that one text call writes, a queued line or separator included" (01, "Added by us")
+abbrev pub lineMeasure : List (List ℕ) → ℕ
+lineMeasure ls = greatest (map measureOf ls)
+
+-- ---- between rows
+
+-- what is kept between rows: the queued line, none or one, and the row height (`OutputRendererState`)
+pub record TextView : Type 0 where
+  pub queued : List (List ℕ)
+  pub height : ℕ
+
+-- "a queued length beyond its array as the array's" (01, "Where a call turns back")
+abbrev pub textViewOf : TextState → TextView
+textViewOf t = record { queued = cond (t .«is_queued») (take (t .«queued_length») (t .«queued_pad_line») ∷ []) []; height = t .«row_height» }
+
+-- the queued line, finished (`flush_queued_pad_line`)
+abbrev pub flushed : TextView → List (List ℕ)
+flushed t = map finish (t .queued)
+
+-- how many lines then stand above the row: those of the row before, and the queued one
+abbrev pub linesAbove : TextView → ℕ
+linesAbove t = t .height + length (t .queued)
+
+-- then a separator, if the row wants one and one line stands above it (`begin_row`)
+abbrev pub beginRow : Bool → TextView → List (List ℕ)
+beginRow separator t = flushed t ++ cond (separator && eqb (linesAbove t) 1) (finish [] ∷ []) []
+
+-- ---- what the writers promise
+
+-- the count of the lines' bytes; where they fit from `at` on, they stand there and nowhere else, and the measure is theirs
+pub record Puts (ls : List (List ℕ)) (at : ℕ) (before after : List ℕ) (r : Put) : Type 0 where
+  pub count : r .length ≡ length (textOf ls)
+  pub bytes : at + length (textOf ls) ≤ length before → after ≡ take at before ++ (textOf ls ++ drop (at + length (textOf ls)) before)
+  pub measure : at + length (textOf ls) ≤ length before → r .measure ≡ lineMeasure ls

@@ -1,0 +1,4 @@
+pub mod RepeatLaws
+pub mod RowTextLaws
+pub mod TextLineLaws
+pub mod CallLaws

@@ -1,0 +1,20 @@
+use mathlib.Core.Path.{_≡_, refl}
+use native.Mathlib.Omega.{arith}
+use borrow.Author.Needs.{needs}
+use Rattle.text.proofs.prefix_lines_to_text.plan_of.Statement.{statement}
+use Rattle.text.proofs.prefix_lines_to_text.plan_of.Tie as tie
+
+fixed-lines-requires : tie.Need-fixed-lines-requires
+fixed-lines-requires c κs = search needs
+
+greater-requires : tie.Need-greater-requires
+greater-requires c κs = search needs
+
+missing-requires : tie.Need-missing-requires
+missing-requires c κs = search needs
+
+returns : tie.Need-returns
+returns c = rw (c .missing .ensures, c .before .greater .ensures, c .before .before .fixed-lines .ensures) refl
+
+pub plan-of-spec : {M : Type 1} → statement M
+plan-of-spec = tie.close (tie.spec fixed-lines-requires greater-requires missing-requires returns)

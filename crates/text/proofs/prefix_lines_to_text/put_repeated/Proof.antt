@@ -1,0 +1,112 @@
+use mathlib.Core.Path.{_≡_, refl}
+use Prim.Native.Nat.{_≤_, _-_}
+use native.Mathlib.Omega.{arith}
+use lib.ListN.{length, take, replicate, length-replicate, length-take, length-drop, drop}
+use Rattle.glyphs.specs.Inner.{entry}
+use Rattle.text.specs.Inner.{lineText}
+use borrow.Author.Needs.{needs}
+use Rattle.column.specs.Columns.{columnLimit}
+use Rattle.text.proofs.RepeatLaws.{put-short, Putting, so-short, part-within, repeat-next, row-none}
+use Rattle.text.proofs.prefix_lines_to_text.put_repeated.Statement.{statement}
+use Rattle.text.proofs.prefix_lines_to_text.put_repeated.Tie as tie
+
+abbrev Inv-loop : tie.InvT-loop
+Inv-loop out₀ at table drawn line times message start length₀ measure₀ next₀ i₀ out length measure next i = (i ≤ times) × Putting table drawn message start at out₀ (replicate i line) out (record { length = length; measure = measure; next = next })
+
+abbrev μ-loop : tie.MeasureT-loop
+μ-loop out₀ at table drawn line times message start length₀ measure₀ next₀ i₀ out length measure next i = times - i
+
+loop-holds : tie.Need-loop-holds Inv-loop μ-loop
+loop-holds c =
+    let a = c .before .before .args in
+    (search needs, record { fits = c .before .before .pre .0; few = c .before .before .pre .1; same = refl; rows = row-none (lineText (entry (a .table .now)) (a .drawn)) (a .message .now) (a .start) (a .at) (a .out .now) (c .before .before .pre .2) })
+
+line-end-requires : tie.Need-line-end-requires Inv-loop μ-loop
+line-end-requires c κs = search needs
+
+add-put-text-line : tie.Need-add-put-text-line Inv-loop μ-loop
+add-put-text-line c =
+    let a = c .before .before .before .before .before .before .args in
+    let l = c .before .before .before .loop in
+    omega (arith, length-replicate (l .i) (a .line), so-short (a .table .now) (a .drawn) (a .message .now) (a .start) (a .at) (a .out .now) (replicate (l .i) (a .line)) (l .out) _ (l .inv .1))
+
+sub-put-text-line : tie.Need-sub-put-text-line Inv-loop μ-loop
+sub-put-text-line c =
+    let a = c .before .before .before .before .before .before .args in
+    let l = c .before .before .before .loop in
+    part-within (a .table .now) (a .drawn) (a .message .now) (a .start) (a .at) (a .out .now) (replicate (l .i) (a .line)) (l .out) _ (l .inv .1) _ (c .before .line-end .ensures) .0
+
+part-put-text-line-start : tie.Need-part-put-text-line-start Inv-loop μ-loop
+part-put-text-line-start c =
+    let a = c .before .before .before .before .before .before .args in
+    let l = c .before .before .before .loop in
+    part-within (a .table .now) (a .drawn) (a .message .now) (a .start) (a .at) (a .out .now) (replicate (l .i) (a .line)) (l .out) _ (l .inv .1) _ (c .before .line-end .ensures) .0
+
+part-put-text-line-end : tie.Need-part-put-text-line-end Inv-loop μ-loop
+part-put-text-line-end c =
+    let a = c .before .before .before .before .before .before .args in
+    let l = c .before .before .before .loop in
+    part-within (a .table .now) (a .drawn) (a .message .now) (a .start) (a .at) (a .out .now) (replicate (l .i) (a .line)) (l .out) _ (l .inv .1) _ (c .before .line-end .ensures) .1
+
+put-text-line-requires : tie.Need-put-text-line-requires Inv-loop μ-loop
+put-text-line-requires c κs =
+    let a = c .before .before .before .before .before .before .before .args in
+    (c .before .before .before .before .before .before .before .pre .0, omega (arith, c .before .before .before .before .before .before .before .pre .1, length-take (c .before .before .line-end .result - c .before .before .before .before .loop .next) (drop (c .before .before .before .before .loop .next) (a .message .now)), length-drop (c .before .before .before .before .loop .next) (a .message .now)))
+
+add-length : tie.Need-add-length Inv-loop μ-loop
+add-length c =
+    let a = c .before .before .before .before .before .before .before .before .before .before .before .args in
+    let l = c .before .before .before .before .before .before .before .before .loop in
+    let e = c .before .before .before .before .before .before .line-end .result in
+    let k : length (take (e - l .next) (drop (l .next) (a .message .now))) ≤ 512 = omega (arith, l .inv .1 .few, length-take (e - l .next) (drop (l .next) (a .message .now)), length-drop (l .next) (a .message .now)) in
+    omega (arith, length-replicate (l .i) (a .line), so-short (a .table .now) (a .drawn) (a .message .now) (a .start) (a .at) (a .out .now) (replicate (l .i) (a .line)) (l .out) _ (l .inv .1), put-short (a .table .now) (a .drawn) (l .inv .1 .fits) (a .line) (take (e - l .next) (drop (l .next) (a .message .now))) k _ _ _ _ (c .before .before .before .put-text-line .ensures))
+
+greater-requires : tie.Need-greater-requires Inv-loop μ-loop
+greater-requires c κs = search needs
+
+next-start-requires : tie.Need-next-start-requires Inv-loop μ-loop
+next-start-requires c κs = search needs
+
+add-i : tie.Need-add-i Inv-loop μ-loop
+add-i c = search needs
+
+loop-less : tie.Need-loop-less Inv-loop μ-loop
+loop-less c = search needs
+
+loop-again : tie.Need-loop-again Inv-loop μ-loop
+loop-again c =
+    let a = c .before .before .before .before .before .before .before .before .before .before .before .before .before .args in
+    let l = c .before .before .before .before .before .before .before .before .before .before .loop in
+    let w = c .before .before .before .before .before .put-text-line in
+    (omega arith, repeat-next (a .table .now) (a .drawn) (a .message .now) (a .start) (a .at) (a .out .now) (a .line) (l .i) (l .out) _ (l .inv .1) _ (w .result) _ _ (c .before .before .before .before .before .before .before .before .line-end .ensures) (w .kept .0) (w .ensures) refl (c .before .greater .ensures) (c .next-start .ensures))
+
+same-length : tie.Need-same-length Inv-loop μ-loop
+same-length c = search needs
+
+returns : tie.Need-returns Inv-loop μ-loop
+returns c =
+    let l = c .before .loop in
+    let e : l .i ≡ c .before .before .before .before .args .times = omega (arith, l .inv .0) in
+    rw (← e) (l .inv .1 .rows)
+
+pub put-repeated-spec : {M : Type 1} → statement M
+put-repeated-spec =
+    tie.close
+    (tie.spec
+    Inv-loop
+    μ-loop
+    loop-holds
+    line-end-requires
+    add-put-text-line
+    sub-put-text-line
+    part-put-text-line-start
+    part-put-text-line-end
+    put-text-line-requires
+    add-length
+    greater-requires
+    next-start-requires
+    add-i
+    loop-less
+    loop-again
+    same-length
+    returns)

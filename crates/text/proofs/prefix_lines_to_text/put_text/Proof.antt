@@ -1,0 +1,42 @@
+use mathlib.Core.Path.{_≡_, refl}
+use native.Mathlib.Omega.{arith}
+use Rattle.output.proofs.PutLaws.{queue-long, begin-short, puts-append, from-start}
+use Rattle.text.proofs.RepeatLaws.{row-bound}
+use borrow.Author.Needs.{needs}
+use Rattle.text.proofs.prefix_lines_to_text.put_text.Statement.{statement}
+use Rattle.text.proofs.prefix_lines_to_text.put_text.Tie as tie
+
+begin-row-requires : tie.Need-begin-row-requires
+begin-row-requires c κs = search needs
+
+put-row-requires : tie.Need-put-row-requires
+put-row-requires c κs =
+    let a = c .before .before .before .before .before .before .before .args in (
+      c .before .before .before .before .before .before .before .pre .0,
+      c .before .before .before .before .before .before .before .pre .1,
+      c .before .before .before .before .before .before .before .pre .2,
+      omega (arith, c .before .before .before .begin-row .ensures .count, begin-short (a .separator-line) (a .state) (queue-long (a .state .«queued_pad_line») _ (c .before .before .before .before .before .before .before .good .1 .1 .1 .1 .1 .0 .1 .1 .0 .1 .0 .1))),
+    )
+
+add-t15 : tie.Need-add-t15
+add-t15 c =
+    let a = c .before .before .before .before .before .before .before .before .before .before .before .args in
+    let p = c .before .before .before .before .before .before .before .before .before .before .before .pre in
+    omega (arith, c .before .before .before .before .before .before .before .begin-row .ensures .count, begin-short (a .separator-line) (a .state) (queue-long (a .state .«queued_pad_line») _ (c .before .before .before .before .before .before .before .before .before .before .before .good .1 .1 .1 .1 .1 .0 .1 .1 .0 .1 .0 .1)), row-bound (a .table .now) (a .drawn) (p .0) (a .message .now) (p .1) (a .plan) (p .2) _ _ _ _ (c .before .before .before .put-row .ensures))
+
+greater-requires : tie.Need-greater-requires
+greater-requires c κs = search needs
+
+same-length : tie.Need-same-length
+same-length c = search needs
+
+returns : tie.Need-returns
+returns c =
+    let b = c .before .before .before .before .before .before .before .before .begin-row in
+    let w = c .before .before .before .before .put-row in
+    puts-append _ _ 0 _ _ _ (b .result) (w .result) _ (b .ensures) (b .kept .0) (from-start _ (w .ensures)) refl (c .greater .ensures)
+
+pub put-text-spec : {M : Type 1} → statement M
+put-text-spec =
+    tie.close
+    (tie.spec begin-row-requires put-row-requires add-t15 greater-requires same-length returns)
