@@ -12,6 +12,8 @@ mod machine;
 mod marked;
 mod programs;
 mod random;
+mod record_compare;
+mod record_files;
 mod records;
 mod refusals;
 mod renderdag;
@@ -42,6 +44,7 @@ use cells::PARTS;
 use compare::Source;
 use compare::Task;
 use demand3::Fault;
+use record_compare::Program;
 use replay::Replay;
 use stream::Letters;
 
@@ -55,7 +58,8 @@ const USAGE: &str = "usage: oracle answer [--built LETTERS]
        oracle demand3 N SEED [--mutant K]
        oracle vectors [--built LETTERS]
        oracle page
-       oracle listing";
+       oracle listing
+       oracle records-compare N SEED PAGE LISTING [--threads N] [--timeout S]";
 
 /// The options, each with a value.
 const OPTIONS: [&str; 6] = [
@@ -101,6 +105,7 @@ fn run(arguments: &Arguments) -> Result<bool, String> {
         "listing" => {
             input().and_then(|records| programs::listing(&records, &mut io::stdout().lock()))
         }
+        "records-compare" => return Ok(record_files_task(arguments)?.run()),
         other => return Err(format!("{other} is not known")),
     };
     done.map(|()| true).map_err(|error| error.to_string())
@@ -150,8 +155,21 @@ fn drawn(arguments: &Arguments) -> Result<Vec<(&'static Part, Task)>, String> {
     tasks.collect()
 }
 
-/// A comparison without a time limit; the program under test is the argument at `place`.
-fn task(arguments: &Arguments, lists: u32, source: Source, place: usize) -> Result<Task, String> {
+/// The comparison of generated record files that the arguments ask for.
+fn record_files_task(arguments: &Arguments) -> Result<record_compare::Task, String> {
+    Ok(record_compare::Task {
+        files: arguments.number(1)?,
+        seed: arguments.number(2)?,
+        programs: [
+            Program::page(under_test(arguments, 3)?),
+            Program::listing(under_test(arguments, 4)?),
+        ],
+        threads: arguments.option_number("--threads")?.unwrap_or(1),
+    })
+}
+
+/// The program under test, which is the argument at `place`.
+fn under_test(arguments: &Arguments, place: usize) -> Result<Replay, String> {
     let limit = arguments.option_number("--timeout")?.unwrap_or(TIMEOUT);
     let program = PathBuf::from(arguments.plain(place)?);
     if !program.is_file() {
@@ -160,13 +178,18 @@ fn task(arguments: &Arguments, lists: u32, source: Source, place: usize) -> Resu
             program.display()
         ));
     }
+    Ok(Replay {
+        program,
+        limit: Duration::from_secs(limit),
+    })
+}
+
+/// A comparison without a time limit; the program under test is the argument at `place`.
+fn task(arguments: &Arguments, lists: u32, source: Source, place: usize) -> Result<Task, String> {
     Ok(Task {
         lists,
         source,
-        replay: Replay {
-            program,
-            limit: Duration::from_secs(limit),
-        },
+        replay: under_test(arguments, place)?,
         built: arguments.letters(),
         threads: arguments.option_number("--threads")?.unwrap_or(1),
         seconds: None,

@@ -16,7 +16,7 @@ use std::time::Instant;
 /// How many bytes beyond those expected are read before the program is stopped.
 const TOO_MANY: usize = 1 << 20;
 /// How long to wait between two looks at whether the program has ended.
-const PAUSE: Duration = Duration::from_millis(1);
+const PAUSE: Duration = Duration::from_micros(20);
 
 /// The program under test, and how long it may take.
 pub struct Replay {

@@ -35,13 +35,16 @@ lineBytes q d mark l = letter (l .kind) ∷ (joinsFrom (bytesOf (glyphsOf q) q d
 unfoldable pub linesBytes : Renderer → RowShape → ℕ → List ℕ
 linesBytes q g mark = joins (lineBytes q (g .style .«dash_style») mark) (lines q g)
 
--- the renderer's rows of 01's table, in their order
-abbrev pub checks : RowShape → Renderer → ℕ → List ℕ → List Check
-checks g q mark out =
+-- the renderer's rows of 01's table, in their order, where these bytes are to be written
+abbrev pub checksFor : RowShape → ℕ → List ℕ → List ℕ → List Check
+checksFor g mark bs out =
     (5 when (ltb mark 0x21 || ltb 0x7e mark))
     ∷ (12 when ltb columnLimit (g .width))
-    ∷ (8 when ltb (length out) (length (linesBytes q g mark)))
+    ∷ (8 when ltb (length out) (length bs))
     ∷ []
+
+abbrev pub checks : RowShape → Renderer → ℕ → List ℕ → List Check
+checks g q mark out = checksFor g mark (linesBytes q g mark) out
 
 -- what a call gives: the refusal, the length, and the output afterwards
 pub record Answer : Type 0 where

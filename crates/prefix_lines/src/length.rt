@@ -4,7 +4,8 @@ ghost use Prim.Native.Nat.{_≤_};
 ghost use lib.ListN.{length, take};
 ghost use Rattle.column.specs.Columns.{columnLimit};
 ghost use Rattle.glyphs.specs.Inner.{cellsText, entry};
-ghost use Rattle.prefix_lines.specs.Inner.{lineText, linesText};
+ghost use Rattle.prefix_lines.specs.Inner.{frameLength, lineText, linesText};
+use crate::writer::Frame;
 use column::COLUMN_LIMIT;
 use glyphs::LINES;
 use glyphs::Line;
@@ -51,8 +52,19 @@ fn cells_length(
     count
 }
 
-// The length of a line with its letter and its end; 0 where the row has none.
+// How many bytes a line has beside its cells.
+fn frame_length(frame: Frame) -> usize
+    ensures { λ r. ⌜ r ≡ frameLength frame ⌝ }
+{
+    match frame {
+        Frame::Plain => 2,
+        Frame::Listed => 4,
+    }
+}
+
+// The length of a line in its frame; 0 where the row has none.
 fn line_length(
+    frame: Frame,
     table: &[u8; TABLE],
     renderer: Renderer,
     row: Row,
@@ -62,16 +74,17 @@ fn line_length(
     width: usize,
 ) -> usize
     requires { ⌜ width ≤ columnLimit ⌝ }
-    ensures { λ r. ⌜ r ≡ length (lineText (entry (now (table .entry))) renderer row mark (take width cells) line) ⌝ }
+    ensures { λ r. ⌜ r ≡ length (lineText frame (entry (now (table .entry))) renderer row mark (take width cells) line) ⌝ }
 {
     if is_present(renderer, row, line) {
-        return cells_length(table, renderer, row, mark, line, cells, width) + 2;
+        return cells_length(table, renderer, row, mark, line, cells, width) + frame_length(frame);
     }
     0
 }
 
 // The length of a row's lines.
 pub(crate) fn lines_length(
+    frame: Frame,
     table: &[u8; TABLE],
     renderer: Renderer,
     row: Row,
@@ -80,13 +93,13 @@ pub(crate) fn lines_length(
     width: usize,
 ) -> usize
     requires { ⌜ width ≤ columnLimit ⌝ }
-    ensures { λ r. ⌜ r ≡ length (linesText (entry (now (table .entry))) renderer row mark (take width cells)) ⌝ }
+    ensures { λ r. ⌜ r ≡ length (linesText frame (entry (now (table .entry))) renderer row mark (take width cells)) ⌝ }
 {
     let mut count: usize = 0;
     let mut k: usize = 0;
     while k < LINES {
         let line = line_at(k);
-        count += line_length(table, renderer, row, mark, line, cells, width);
+        count += line_length(frame, table, renderer, row, mark, line, cells, width);
         k += 1;
     }
     count

@@ -1,5 +1,7 @@
-// The renderer call, after row_shape_to_prefix_lines.rs.
+// The renderer call, after row_shape_to_prefix_lines.rs, and the same lines in the listing program's form.
 ghost use mathlib.Core.Path.{_≡_};
+ghost use Rattle.prefix_lines.specs.Inner.{framedAnswer};
+ghost use Rattle.prefix_lines.specs.Listing.{listing};
 ghost use Rattle.prefix_lines.specs.PrefixLines.{answerOf, nextPrefixLines};
 
 mod length;
@@ -11,9 +13,10 @@ use glyphs::glyph_table;
 use glyphs::row_of;
 use length::lines_length;
 use render::RowShape;
+use writer::Frame;
 use writer::write_lines;
 
-// A renderer call's answer beside the output: the refusal, 0 for none, and the count of bytes written.
+// A call's answer beside the output: the refusal, 0 for none, and the count of bytes written.
 pub struct Written {
     pub refusal: u8,
     pub length: usize,
@@ -26,9 +29,15 @@ fn refused(refusal: u8) -> Written
     Written { refusal, length: 0 }
 }
 
-// Writes each line of a shape as its kind letter, the line with the mark in place, and 0A.
-pub fn next_prefix_lines(shape: RowShape, renderer: Renderer, mark: u8, out: &mut [u8]) -> Written
-    ensures { λ r. ⌜ answerOf r (now (out .exit)) ≡ nextPrefixLines shape renderer mark (now (out .entry)) ⌝ }
+// Writes each line of a shape in its frame.
+fn write_shape(
+    out: &mut [u8],
+    frame: Frame,
+    shape: RowShape,
+    renderer: Renderer,
+    mark: u8,
+) -> Written
+    ensures { λ r. ⌜ answerOf r (now (out .exit)) ≡ framedAnswer frame shape renderer mark (now (out .entry)) ⌝ }
 {
     if (mark < 0x21) | (0x7e < mark) {
         return refused(5);
@@ -40,9 +49,23 @@ pub fn next_prefix_lines(shape: RowShape, renderer: Renderer, mark: u8, out: &mu
     let width = shape.width;
     let row = row_of(shape);
     let table = glyph_table(renderer);
-    if out.len() < lines_length(&table, renderer, row, mark, cells, width) {
+    if out.len() < lines_length(frame, &table, renderer, row, mark, cells, width) {
         return refused(8);
     }
-    let length = write_lines(out, &table, renderer, row, mark, cells, width);
+    let length = write_lines(out, frame, &table, renderer, row, mark, cells, width);
     Written { refusal: 0, length }
+}
+
+// Writes each line of a shape as its kind letter, the line with the mark in place, and 0A.
+pub fn next_prefix_lines(shape: RowShape, renderer: Renderer, mark: u8, out: &mut [u8]) -> Written
+    ensures { λ r. ⌜ answerOf r (now (out .exit)) ≡ nextPrefixLines shape renderer mark (now (out .entry)) ⌝ }
+{
+    write_shape(out, Frame::Plain, shape, renderer, mark)
+}
+
+// Writes each ASCII line of a shape as its kind letter, a colon, the line with the mark in place, `$`, and 0A.
+pub fn write_listing(shape: RowShape, mark: u8, out: &mut [u8]) -> Written
+    ensures { λ r. ⌜ answerOf r (now (out .exit)) ≡ listing shape mark (now (out .entry)) ⌝ }
+{
+    write_shape(out, Frame::Listed, shape, Renderer::Ascii, mark)
 }

@@ -5,7 +5,7 @@ ghost use lib.ListN.{length, take};
 ghost use Rattle.column.specs.Columns.{columnLimit};
 ghost use Rattle.glyphs.specs.Inner.{cellsText, entry};
 ghost use Rattle.glyphs.specs.Joins.{over};
-ghost use Rattle.prefix_lines.specs.Inner.{lineText, linesText};
+ghost use Rattle.prefix_lines.specs.Inner.{closing, lineText, linesText, opening};
 ghost use Rattle.prefix_lines.specs.PrefixLines.{letter};
 use column::COLUMN_LIMIT;
 use glyphs::LINES;
@@ -21,6 +21,12 @@ use glyphs::next_index;
 use glyphs::next_link;
 use glyphs::write_glyph;
 use render::Cell;
+
+// What stands around a line's cells: the letter and the end, in a listing a colon and `$` too.
+pub(crate) enum Frame {
+    Plain,
+    Listed,
+}
 
 // Writes a line's cells, and gives the count of their bytes.
 fn write_cells(
@@ -74,9 +80,37 @@ fn kind_letter(line: Line) -> u8
     }
 }
 
-// Writes a line with its letter and its end, where the row has it, and gives the count of its bytes.
+// Writes what stands before a line's cells, and gives the count of its bytes.
+fn write_opening(out: &mut [u8], frame: Frame, line: Line) -> usize
+    requires { ⌜ length (opening frame line) ≤ length (now out) ⌝ }
+    ensures { λ r. ⌜ (r ≡ length (opening frame line)) × (now (out .exit) ≡ over (opening frame line) (now (out .entry))) ⌝ }
+{
+    out[0] = kind_letter(line);
+    let Frame::Listed = frame else {
+        return 1;
+    };
+    out[1] = b':';
+    2
+}
+
+// Writes what stands behind them, and gives the count of its bytes.
+fn write_closing(out: &mut [u8], frame: Frame) -> usize
+    requires { ⌜ length (closing frame) ≤ length (now out) ⌝ }
+    ensures { λ r. ⌜ (r ≡ length (closing frame)) × (now (out .exit) ≡ over (closing frame) (now (out .entry))) ⌝ }
+{
+    let Frame::Listed = frame else {
+        out[0] = b'\n';
+        return 1;
+    };
+    out[0] = b'$';
+    out[1] = b'\n';
+    2
+}
+
+// Writes a line in its frame, where the row has it, and gives the count of its bytes.
 fn write_line(
     out: &mut [u8],
+    frame: Frame,
     table: &[u8; TABLE],
     renderer: Renderer,
     row: Row,
@@ -86,15 +120,15 @@ fn write_line(
     width: usize,
 ) -> usize
     requires { ⌜ width ≤ columnLimit ⌝ }
-    requires { ⌜ length (lineText (entry (now table)) renderer row mark (take width cells) line) ≤ length (now out) ⌝ }
-    ensures { λ r. ⌜ (r ≡ length (lineText (entry (now (table .entry))) renderer row mark (take width cells) line))
-        × (now (out .exit) ≡ over (lineText (entry (now (table .entry))) renderer row mark (take width cells) line) (now (out .entry))) ⌝ }
+    requires { ⌜ length (lineText frame (entry (now table)) renderer row mark (take width cells) line) ≤ length (now out) ⌝ }
+    ensures { λ r. ⌜ (r ≡ length (lineText frame (entry (now (table .entry))) renderer row mark (take width cells) line))
+        × (now (out .exit) ≡ over (lineText frame (entry (now (table .entry))) renderer row mark (take width cells) line) (now (out .entry))) ⌝ }
 {
     if is_present(renderer, row, line) {
-        out[0] = kind_letter(line);
-        let end = 1
+        let start = write_opening(out, frame, line);
+        let end = start
             + write_cells(
-                &mut out[1..],
+                &mut out[start..],
                 table,
                 renderer,
                 row,
@@ -103,8 +137,7 @@ fn write_line(
                 cells,
                 width,
             );
-        out[end] = b'\n';
-        return end + 1;
+        return end + write_closing(&mut out[end..], frame);
     }
     0
 }
@@ -112,6 +145,7 @@ fn write_line(
 // Writes a row's lines, and gives the count of their bytes.
 pub(crate) fn write_lines(
     out: &mut [u8],
+    frame: Frame,
     table: &[u8; TABLE],
     renderer: Renderer,
     row: Row,
@@ -120,9 +154,9 @@ pub(crate) fn write_lines(
     width: usize,
 ) -> usize
     requires { ⌜ width ≤ columnLimit ⌝ }
-    requires { ⌜ length (linesText (entry (now table)) renderer row mark (take width cells)) ≤ length (now out) ⌝ }
-    ensures { λ r. ⌜ (r ≡ length (linesText (entry (now (table .entry))) renderer row mark (take width cells)))
-        × (now (out .exit) ≡ over (linesText (entry (now (table .entry))) renderer row mark (take width cells)) (now (out .entry))) ⌝ }
+    requires { ⌜ length (linesText frame (entry (now table)) renderer row mark (take width cells)) ≤ length (now out) ⌝ }
+    ensures { λ r. ⌜ (r ≡ length (linesText frame (entry (now (table .entry))) renderer row mark (take width cells)))
+        × (now (out .exit) ≡ over (linesText frame (entry (now (table .entry))) renderer row mark (take width cells)) (now (out .entry))) ⌝ }
 {
     let mut at: usize = 0;
     let mut k: usize = 0;
@@ -130,6 +164,7 @@ pub(crate) fn write_lines(
         let line = line_at(k);
         at += write_line(
             &mut out[at..],
+            frame,
             table,
             renderer,
             row,

@@ -91,7 +91,7 @@ repeated-map t h [] = refl
 repeated-map t h (l ∷ ls) =
     ap₂ _++_ (sym (map-times h (t (h l)) l)) (repeated-map t h ls) ∙ sym (map-append h (replicate (t (h l)) l) (spread (λ (l : Line). t (h l)) ls))
 
-length-drawn : (f : Line → List ℕ → List ℕ) (ls : List Line) (m : List ℕ) → length (drawn f ls m) ≡ length ls
+pub length-drawn : (f : Line → List ℕ → List ℕ) (ls : List Line) (m : List ℕ) → length (drawn f ls m) ≡ length ls
 length-drawn f [] m = refl
 length-drawn f (l ∷ ls) m = ap suc (length-drawn f ls (otherLines m))
 

@@ -1,60 +1,16 @@
-use native.Mathlib.Omega.{arith}
-use Rattle.prefix_lines.proofs.CallLaws.{mark-refused, width-refused, room-refused, accepted}
 use borrow.Author.Needs.{needs}
+use Rattle.prefix_lines.proofs.CallLaws.{plain-answer}
 use Rattle.prefix_lines.proofs.next_prefix_lines.Statement.{statement}
 use Rattle.prefix_lines.proofs.next_prefix_lines.Tie as tie
 
-refused-requires : tie.Need-refused-requires
-refused-requires c κs = search needs
-
-returns : tie.Need-returns
-returns c = let a = c .before .before .before .args in mark-refused (a .shape) (a .renderer) (a .mark) (a .out .now) _ (c .before .if1 .taken) (c .refused .ensures)
-
-refused-requires-2 : tie.Need-refused-requires-2
-refused-requires-2 c κs = search needs
-
-returns-2 : tie.Need-returns-2
-returns-2 c = let a = c .before .before .before .before .before .args in width-refused (a .shape) (a .renderer) (a .mark) (a .out .now) (c .before .before .before .if1 .left) _ (c .before .if2 .taken) (c .refused2 .ensures)
-
-row-of-requires : tie.Need-row-of-requires
-row-of-requires c κs = search needs
-
-glyph-table-requires : tie.Need-glyph-table-requires
-glyph-table-requires c κs = search needs
-
-lines-length-requires : tie.Need-lines-length-requires
-lines-length-requires c κs = search needs
-
-refused-requires-3 : tie.Need-refused-requires-3
-refused-requires-3 c κs = search needs
-
-returns-3 : tie.Need-returns-3
-returns-3 c = let a = c .before .before .before .before .before .before .before .before .before .before .before .args in
-    room-refused (a .shape) (a .renderer) (a .mark) (a .out .now) (c .before .before .before .before .before .before .before .before .before .if1 .left) (c .before .before .before .before .before .before .before .if2 .left) _ _ (c .before .before .before .before .glyph-table .ensures) (c .before .before .before .before .before .row-of .ensures) _ _ (c .before .before .lines-length .ensures) (c .before .if3 .taken) (c .refused3 .ensures)
-
-write-lines-requires : tie.Need-write-lines-requires
-write-lines-requires c κs = (c .before .before .before .before .before .before .before .before .if2 .left, omega (arith, c .before .before .before .lines-length .ensures))
+write-shape-requires : tie.Need-write-shape-requires
+write-shape-requires c κs = search needs
 
 same-length : tie.Need-same-length
 same-length c = search needs
 
-returns-4 : tie.Need-returns-4
-returns-4 c = let a = c .before .before .before .before .before .before .before .before .before .before .before .before .before .before .before .args in
-    accepted (a .shape) (a .renderer) (a .mark) (a .out .now) (c .before .before .before .before .before .before .before .before .before .before .before .before .before .if1 .left) (c .before .before .before .before .before .before .before .before .before .before .before .if2 .left) _ _ (c .before .before .before .before .before .before .before .before .glyph-table .ensures) (c .before .before .before .before .before .before .before .before .before .row-of .ensures) _ _ (omega (arith, c .before .before .before .before .before .before .lines-length .ensures)) (c .before .before .write-lines .ensures .0) (c .before .before .write-lines .ensures .1)
+returns : tie.Need-returns
+returns c = let a = c .before .before .before .before .before .args in plain-answer (a .shape) (a .renderer) (a .mark) (a .out .now) (c .before .before .write-shape .ensures)
 
 pub next-prefix-lines-spec : {M : Type 1} → statement M
-next-prefix-lines-spec =
-    tie.close
-    (tie.spec
-    refused-requires
-    returns
-    refused-requires-2
-    returns-2
-    row-of-requires
-    glyph-table-requires
-    lines-length-requires
-    refused-requires-3
-    returns-3
-    write-lines-requires
-    same-length
-    returns-4)
+next-prefix-lines-spec = tie.close (tie.spec write-shape-requires same-length returns)

@@ -4,7 +4,7 @@ use lib.ListN.{take, length-take}
 use Rattle.glyphs.specs.Inner.{entry}
 use Rattle.glyphs.proofs.CellLaws.{cells-short}
 use Rattle.glyphs.proofs.TableLaws.{entry-short}
-use Rattle.prefix_lines.proofs.LineLaws.{present-length, absent}
+use Rattle.prefix_lines.proofs.LineLaws.{frame-small, present-length, absent}
 use borrow.Author.Needs.{needs}
 use Rattle.prefix_lines.proofs.length.line_length.Statement.{statement}
 use Rattle.prefix_lines.proofs.length.line_length.Tie as tie
@@ -15,15 +15,18 @@ is-present-requires c κs = search needs
 cells-length-requires : tie.Need-cells-length-requires
 cells-length-requires c κs = search needs
 
+frame-length-requires : tie.Need-frame-length-requires
+frame-length-requires c κs = search needs
+
 add-result : tie.Need-add-result
-add-result c = let a = c .before .before .before .args in omega (arith, c .cells-length .ensures, cells-short (entry (a .table .now)) (entry-short (a .table .now)) (a .renderer) (a .row) (a .mark) (a .line) (take (a .width) (a .cells)), length-take (a .width) (a .cells))
+add-result c = let a = c .before .before .before .before .args in omega (arith, c .before .cells-length .ensures, c .frame-length .ensures, frame-small (a .frame), cells-short (entry (a .table .now)) (entry-short (a .table .now)) (a .renderer) (a .row) (a .mark) (a .line) (take (a .width) (a .cells)), length-take (a .width) (a .cells))
 
 returns : tie.Need-returns
-returns c = let a = c .before .before .before .args in rw (present-length (entry (a .table .now)) (a .renderer) (a .row) (a .mark) (a .line) (take (a .width) (a .cells)) (sym (c .before .before .is-present .ensures) ∙ c .before .if1 .taken), ← c .cells-length .ensures)
+returns c = let a = c .before .before .before .before .args in rw (present-length (a .frame) (entry (a .table .now)) (a .renderer) (a .row) (a .mark) (a .line) (take (a .width) (a .cells)) (sym (c .before .before .before .is-present .ensures) ∙ c .before .before .if1 .taken), ← c .before .cells-length .ensures, ← c .frame-length .ensures)
 
 returns-2 : tie.Need-returns-2
-returns-2 c = let a = c .before .before .args in rw (absent (entry (a .table .now)) (a .renderer) (a .row) (a .mark) (a .line) (take (a .width) (a .cells)) (sym (c .before .is-present .ensures) ∙ c .if1 .left))
+returns-2 c = let a = c .before .before .args in rw (absent (a .frame) (entry (a .table .now)) (a .renderer) (a .row) (a .mark) (a .line) (take (a .width) (a .cells)) (sym (c .before .is-present .ensures) ∙ c .if1 .left))
 
 pub line-length-spec : {M : Type 1} → statement M
 line-length-spec =
-    tie.close (tie.spec is-present-requires cells-length-requires add-result returns returns-2)
+    tie.close (tie.spec is-present-requires cells-length-requires frame-length-requires add-result returns returns-2)

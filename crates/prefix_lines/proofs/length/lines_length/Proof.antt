@@ -16,11 +16,11 @@ use Rattle.prefix_lines.proofs.length.lines_length.Statement.{statement
 use Rattle.prefix_lines.proofs.length.lines_length.Tie as tie
 
 abbrev Inv-loop : tie.InvT-loop
-Inv-loop table renderer row mark cells width count₀ k₀ count k =
-    (k ≤ 9) × (width ≤ columnLimit) × (count ≡ length (joins (lineText (entry table) renderer row mark (take width cells)) (take k allLines)))
+Inv-loop frame table renderer row mark cells width count₀ k₀ count k =
+    (k ≤ 9) × (width ≤ columnLimit) × (count ≡ length (joins (lineText frame (entry table) renderer row mark (take width cells)) (take k allLines)))
 
 abbrev μ-loop : tie.MeasureT-loop
-μ-loop table renderer row mark cells width count₀ k₀ count k = 9 - k
+μ-loop frame table renderer row mark cells width count₀ k₀ count k = 9 - k
 
 loop-holds : tie.Need-loop-holds Inv-loop μ-loop
 loop-holds c = search needs
@@ -34,7 +34,7 @@ line-length-requires c κs = search needs
 add-count : tie.Need-add-count Inv-loop μ-loop
 add-count c = let a = c .before .before .before .before .args in
     let l = c .before .before .before .loop in
-    omega (arith, so-short (lineText (entry (a .table .now)) (a .renderer) (a .row) (a .mark) (take (a .width) (a .cells))) allLines (l .k) 514 (line-short (entry (a .table .now)) (entry-short (a .table .now)) (a .renderer) (a .row) (a .mark) (a .cells) (a .width) (l .inv .1)), c .line-length .ensures, line-short (entry (a .table .now)) (entry-short (a .table .now)) (a .renderer) (a .row) (a .mark) (a .cells) (a .width) (l .inv .1) (c .before .line-at .result))
+    omega (arith, so-short (lineText (a .frame) (entry (a .table .now)) (a .renderer) (a .row) (a .mark) (take (a .width) (a .cells))) allLines (l .k) 516 (line-short (a .frame) (entry (a .table .now)) (a .renderer) (a .row) (a .mark) (entry-short (a .table .now)) (a .cells) (a .width) (l .inv .1)), c .line-length .ensures, line-short (a .frame) (entry (a .table .now)) (a .renderer) (a .row) (a .mark) (entry-short (a .table .now)) (a .cells) (a .width) (l .inv .1) (c .before .line-at .result))
 
 add-k : tie.Need-add-k Inv-loop μ-loop
 add-k c = search needs
@@ -45,12 +45,12 @@ loop-less c = search needs
 loop-again : tie.Need-loop-again Inv-loop μ-loop
 loop-again c = let a = c .before .before .before .before .args in
     let l = c .before .before .before .loop in
-    (omega arith, l .inv .1, next-length (lineText (entry (a .table .now)) (a .renderer) (a .row) (a .mark) (take (a .width) (a .cells))) allLines (l .k) PostAncestry (omega arith) (l .inv .2) (rw (c .before .line-at .ensures) at (c .line-length .ensures)))
+    (omega arith, l .inv .1, next-length (lineText (a .frame) (entry (a .table .now)) (a .renderer) (a .row) (a .mark) (take (a .width) (a .cells))) allLines (l .k) PostAncestry (omega arith) (l .inv .2) (rw (c .before .line-at .ensures) at (c .line-length .ensures)))
 
 returns : tie.Need-returns Inv-loop μ-loop
 returns c = let a = c .before .before .args in
     let l = c .before .loop in
-    end-length (lineText (entry (a .table .now)) (a .renderer) (a .row) (a .mark) (take (a .width) (a .cells))) allLines (l .k) (omega arith) (l .inv .2)
+    end-length (lineText (a .frame) (entry (a .table .now)) (a .renderer) (a .row) (a .mark) (take (a .width) (a .cells))) allLines (l .k) (omega arith) (l .inv .2)
 
 pub lines-length-spec : {M : Type 1} → statement M
 lines-length-spec =

@@ -3,12 +3,12 @@ use mathlib.Core.Path.{_≡_, sym, _∙_}
 use mathlib.Core.Bool.{true}
 use mathlib.Core.List.{_++_}
 use native.Mathlib.Omega.{arith}
-use lib.ListN.{length, take, drop, set, length-set}
-use Rattle.glyphs.specs.Characters.{newline}
+use lib.ListN.{length, take, drop}
 use Rattle.glyphs.specs.Inner.{entry, cellsText}
 use Rattle.glyphs.specs.Cells.{isPresent}
-use Rattle.glyphs.proofs.OverLaws.{part-room, part-length}
-use Rattle.prefix_lines.proofs.LineLaws.{absent, present-length, line-written}
+use Rattle.glyphs.proofs.OverLaws.{part-room, part-length, part-written}
+use Rattle.prefix_lines.specs.Inner.{opening, frameLength}
+use Rattle.prefix_lines.proofs.LineLaws.{frame-parts, absent, present-length, line-written}
 use borrow.Author.Needs.{needs}
 use Rattle.prefix_lines.proofs.writer.write_line.Statement.{statement}
 use Rattle.prefix_lines.proofs.writer.write_line.Tie as tie
@@ -18,77 +18,99 @@ shown : (c : tie.Then1) → isPresent (c .before .before .before .args .renderer
 shown c = sym (c .before .is-present .ensures) ∙ c .if1 .taken
 
 -- and it fits
-fits : (c : tie.Then1) → length (cellsText (entry (c .before .before .before .args .table .now)) (c .before .before .before .args .renderer) (c .before .before .before .args .row) (c .before .before .before .args .mark) (take (c .before .before .before .args .width) (c .before .before .before .args .cells)) (c .before .before .before .args .line)) + 2 ≤ length (c .before .before .before .args .out .now)
-fits c = let a = c .before .before .before .args in omega (arith, present-length (entry (a .table .now)) (a .renderer) (a .row) (a .mark) (a .line) (take (a .width) (a .cells)) (shown c))
+fits : (c : tie.Then1) → length (cellsText (entry (c .before .before .before .args .table .now)) (c .before .before .before .args .renderer) (c .before .before .before .args .row) (c .before .before .before .args .mark) (take (c .before .before .before .args .width) (c .before .before .before .args .cells)) (c .before .before .before .args .line)) + frameLength (c .before .before .before .args .frame) ≤ length (c .before .before .before .args .out .now)
+fits c = let a = c .before .before .before .args in omega (arith, present-length (a .frame) (entry (a .table .now)) (a .renderer) (a .row) (a .mark) (a .line) (take (a .width) (a .cells)) (shown c))
+
+-- what stands before the cells is written
+begun : (c : tie.After-slice-known2) → c .before .before .write-opening .result ≤ length (c .before .before .write-opening .last .0)
+begun c = let a = c .before .before .before .before .before .before .before .args in omega (arith, fits (c .before .before .before .before), frame-parts (a .frame) (a .line), c .before .before .write-opening .ensures .0, c .before .before .write-opening .kept .0)
 
 -- the cells are put back in place
-whole : (c : tie.After-slice-known2)
-    → length (take 1 (set (c .before .before .before .before .before .before .before .before .args .out .now) 0 (c .before .before .before .before .kind-letter .result)) ++ (c .before .before .write-cells .last .0
-    ++ drop (length (set (c .before .before .before .before .before .before .before .before .args .out .now) 0 (c .before .before .before .before .kind-letter .result)) - 1) (drop 1 (set (c .before .before .before .before .before .before .before .before .args .out .now) 0 (c .before .before .before .before .kind-letter .result)))))
-    ≡ length (c .before .before .before .before .before .before .before .before .args .out .now)
+whole : (c : tie.After-slice-known3)
+    → length (take (c .before .before .before .before .before .before .write-opening .result) (c .before .before .before .before .before .before .write-opening .last .0) ++ (c .before .before .write-cells .last .0
+    ++ drop (length (c .before .before .before .before .before .before .write-opening .last .0) - c .before .before .before .before .before .before .write-opening .result) (drop (c .before .before .before .before .before .before .write-opening .result) (c .before .before .before .before .before .before .write-opening .last .0))))
+    ≡ length (c .before .before .before .before .before .before .before .before .before .before .before .args .out .now)
 whole c =
-    let a = c .before .before .before .before .before .before .before .before .args in
-    let e = length-set (a .out .now) 0 (c .before .before .before .before .kind-letter .result) in
-    part-length (set (a .out .now) 0 (c .before .before .before .before .kind-letter .result)) (c .before .before .write-cells .last .0) 1 (c .before .before .write-cells .kept .0) (omega (arith, fits (c .before .before .before .before .before))) ∙ e
+    let w = c .before .before .before .before .before .before .write-opening in
+    part-length (w .last .0) (c .before .before .write-cells .last .0) (w .result) (c .before .before .write-cells .kept .0) (begun (c .before .before .before .before)) ∙ w .kept .0
 
 is-present-requires : tie.Need-is-present-requires
 is-present-requires c κs = search needs
 
-kind-letter-requires : tie.Need-kind-letter-requires
-kind-letter-requires c κs = search needs
-
-slice-write-out : tie.Need-slice-write-out
-slice-write-out c = omega (arith, fits (c .before))
+write-opening-requires : tie.Need-write-opening-requires
+write-opening-requires c κs = let a = c .before .before .before .before .args in omega (arith, fits (c .before), frame-parts (a .frame) (a .line))
 
 sub-write-cells : tie.Need-sub-write-cells
-sub-write-cells c = let a = c .before .before .before .before .args in omega (arith, fits (c .before), length-set (a .out .now) 0 (c .kind-letter .result))
+sub-write-cells c = begun c
 
 part-write-cells-start : tie.Need-part-write-cells-start
-part-write-cells-start c = let a = c .before .before .before .before .args in omega (arith, fits (c .before), length-set (a .out .now) 0 (c .kind-letter .result))
+part-write-cells-start c = begun c
 
 part-write-cells-end : tie.Need-part-write-cells-end
 part-write-cells-end c = search needs
 
 write-cells-requires : tie.Need-write-cells-requires
-write-cells-requires c κs = let a = c .before .before .before .before .before .args in (c .before .before .before .before .before .pre .0, omega (arith, fits (c .before .before), part-room (set (a .out .now) 0 (c .before .kind-letter .result)) 1, length-set (a .out .now) 0 (c .before .kind-letter .result)))
+write-cells-requires c κs =
+    let a = c .before .before .before .before .before .before .before .before .args in
+    let w = c .before .before .before .write-opening in
+    (c .before .before .before .before .before .before .before .before .pre .0, omega (arith, fits (c .before .before .before .before .before), frame-parts (a .frame) (a .line), part-room (w .last .0) (w .result), w .ensures .0, w .kept .0))
 
 add-end : tie.Need-add-end
-add-end c = omega (arith, fits (c .before .before .before .before .before), c .before .before .write-cells .ensures .0)
+add-end c = let a = c .before .before .before .before .before .before .before .before .before .before .before .args in omega (arith, fits (c .before .before .before .before .before .before .before .before), frame-parts (a .frame) (a .line), c .before .before .before .before .before .before .write-opening .ensures .0, c .before .before .write-cells .ensures .0)
 
-slice-write-out-2 : tie.Need-slice-write-out-2
-slice-write-out-2 c = let a = c .before .before .before .before .before .before .before .before .args in omega (arith, fits (c .before .before .before .before .before), c .before .before .write-cells .ensures .0, whole c)
+sub-write-closing : tie.Need-sub-write-closing
+sub-write-closing c = let a = c .before .before .before .before .before .before .before .before .before .before .before .args in omega (arith, fits (c .before .before .before .before .before .before .before .before), frame-parts (a .frame) (a .line), c .before .before .before .before .before .before .write-opening .ensures .0, c .before .before .write-cells .ensures .0, whole c)
+
+part-write-closing-start : tie.Need-part-write-closing-start
+part-write-closing-start c = let a = c .before .before .before .before .before .before .before .before .before .before .before .args in omega (arith, fits (c .before .before .before .before .before .before .before .before), frame-parts (a .frame) (a .line), c .before .before .before .before .before .before .write-opening .ensures .0, c .before .before .write-cells .ensures .0, whole c)
+
+part-write-closing-end : tie.Need-part-write-closing-end
+part-write-closing-end c = search needs
+
+write-closing-requires : tie.Need-write-closing-requires
+write-closing-requires c κs =
+    let a = c .before .before .before .before .before .before .before .before .before .before .before .before .args in
+    let w = c .before .before .before .before .before .before .before .write-opening in
+    let o = take (w .result) (w .last .0) ++ (c .before .before .before .write-cells .last .0 ++ drop (length (w .last .0) - w .result) (drop (w .result) (w .last .0))) in
+    omega (arith, fits (c .before .before .before .before .before .before .before .before .before), frame-parts (a .frame) (a .line), part-room o (w .result + c .before .before .before .write-cells .result), w .ensures .0, c .before .before .before .write-cells .ensures .0, whole (c .before))
 
 add-result : tie.Need-add-result
-add-result c = omega (arith, fits (c .before .before .before .before .before), c .before .before .write-cells .ensures .0)
+add-result c = let a = c .before .before .before .before .before .before .before .before .before .before .before .before .before .before .before .args in omega (arith, fits (c .before .before .before .before .before .before .before .before .before .before .before .before), frame-parts (a .frame) (a .line), c .before .before .before .before .before .before .before .before .before .before .write-opening .ensures .0, c .before .before .before .before .before .before .write-cells .ensures .0, c .before .before .write-closing .ensures .0)
 
 same-length : tie.Need-same-length
-same-length c =
-    let o = set (c .before .before .before .before .before .before .before .before .args .out .now) 0 (c .before .before .before .before .kind-letter .result) in
-    let w = c .before .before .write-cells in
-    length-set (take 1 o ++ (w .last .0 ++ drop (length o - 1) (drop 1 o))) (1 + w .result) newline ∙ whole c
+same-length c = search needs
 
 returns : tie.Need-returns
-returns c = let a = c .before .before .before .before .before .before .before .before .args in
-    let w = c .before .before .write-cells in
-    let h = shown (c .before .before .before .before .before) in
-    (omega (arith, w .ensures .0, present-length (entry (a .table .now)) (a .renderer) (a .row) (a .mark) (a .line) (take (a .width) (a .cells)) h), line-written (entry (a .table .now)) (a .renderer) (a .row) (a .mark) (a .line) (take (a .width) (a .cells)) h _ (c .before .before .before .before .kind-letter .ensures) (c .before .before .before .before .before .before .before .before .pre .1) (w .ensures .0) (w .ensures .1))
+returns c =
+    let a = c .before .before .before .before .before .before .before .before .before .before .before .before .before .before .before .args in
+    let h = shown (c .before .before .before .before .before .before .before .before .before .before .before .before) in
+    let o = c .before .before .before .before .before .before .before .before .before .before .write-opening in
+    let w = c .before .before .before .before .before .before .write-cells in
+    let g = c .before .before .write-closing in (
+      omega (arith, o .ensures .0, w .ensures .0, g .ensures .0, frame-parts (a .frame) (a .line), present-length (a .frame) (entry (a .table .now)) (a .renderer) (a .row) (a .mark) (a .line) (take (a .width) (a .cells)) h),
+      line-written (a .frame) (entry (a .table .now)) (a .renderer) (a .row) (a .mark) (a .line) (take (a .width) (a .cells)) h (a .out .now)
+          (part-written (opening (a .frame) (a .line)) (cellsText (entry (a .table .now)) (a .renderer) (a .row) (a .mark) (take (a .width) (a .cells)) (a .line)) (a .out .now) (o .ensures .1) (o .ensures .0) (w .ensures .1))
+          (omega (arith, o .ensures .0, w .ensures .0)) (g .ensures .1),
+    )
 
 returns-2 : tie.Need-returns-2
-returns-2 c = let a = c .before .before .before .args in let e = absent (entry (a .table .now)) (a .renderer) (a .row) (a .mark) (a .line) (take (a .width) (a .cells)) (sym (c .before .is-present .ensures) ∙ c .if1 .left) in (rw e, rw e)
+returns-2 c = let a = c .before .before .before .args in let e = absent (a .frame) (entry (a .table .now)) (a .renderer) (a .row) (a .mark) (a .line) (take (a .width) (a .cells)) (sym (c .before .is-present .ensures) ∙ c .if1 .left) in (rw e, rw e)
 
 pub write-line-spec : {M : Type 1} → statement M
 write-line-spec =
     tie.close
     (tie.spec
     is-present-requires
-    kind-letter-requires
-    slice-write-out
+    write-opening-requires
     sub-write-cells
     part-write-cells-start
     part-write-cells-end
     write-cells-requires
     add-end
-    slice-write-out-2
+    sub-write-closing
+    part-write-closing-start
+    part-write-closing-end
+    write-closing-requires
     add-result
     same-length
     returns

@@ -15,28 +15,28 @@ use Rattle.prefix_lines.proofs.writer.write_lines.Statement.{statement}
 use Rattle.prefix_lines.proofs.writer.write_lines.Tie as tie
 
 abbrev Inv-loop : tie.InvT-loop
-Inv-loop out₀ table renderer row mark cells width at₀ k₀ out at k =
-    (k ≤ 9) × (width ≤ columnLimit) × (length (linesText (entry table) renderer row mark (take width cells)) ≤ length out₀) × (length out ≡ length out₀)
-    × (at ≡ length (joins (lineText (entry table) renderer row mark (take width cells)) (take k allLines)))
-    × (out ≡ over (joins (lineText (entry table) renderer row mark (take width cells)) (take k allLines)) out₀)
+Inv-loop out₀ frame table renderer row mark cells width at₀ k₀ out at k =
+    (k ≤ 9) × (width ≤ columnLimit) × (length (linesText frame (entry table) renderer row mark (take width cells)) ≤ length out₀) × (length out ≡ length out₀)
+    × (at ≡ length (joins (lineText frame (entry table) renderer row mark (take width cells)) (take k allLines)))
+    × (out ≡ over (joins (lineText frame (entry table) renderer row mark (take width cells)) (take k allLines)) out₀)
 
 abbrev μ-loop : tie.MeasureT-loop
-μ-loop out₀ table renderer row mark cells width at₀ k₀ out at k = 9 - k
+μ-loop out₀ frame table renderer row mark cells width at₀ k₀ out at k = 9 - k
 
 -- what stands fits
 room : (c : tie.After-line-at Inv-loop μ-loop) → c .before .before .loop .at ≤ length (c .before .before .loop .out)
 room c =
     let a = c .before .before .before .before .args in
-    omega (arith, joins-within (lineText (entry (a .table .now)) (a .renderer) (a .row) (a .mark) (take (a .width) (a .cells))) allLines (c .before .before .loop .k))
+    omega (arith, joins-within (lineText (a .frame) (entry (a .table .now)) (a .renderer) (a .row) (a .mark) (take (a .width) (a .cells))) allLines (c .before .before .loop .k))
 
 -- and so does it with the next line
 grown : (c : tie.After-line-at Inv-loop μ-loop)
-    → c .before .before .loop .at + length ((lineText (entry (c .before .before .before .before .args .table .now)) (c .before .before .before .before .args .renderer) (c .before .before .before .before .args .row) (c .before .before .before .before .args .mark) (take (c .before .before .before .before .args .width) (c .before .before .before .before .args .cells))) (c .line-at .result))
-    ≡ length (joins (lineText (entry (c .before .before .before .before .args .table .now)) (c .before .before .before .before .args .renderer) (c .before .before .before .before .args .row) (c .before .before .before .before .args .mark) (take (c .before .before .before .before .args .width) (c .before .before .before .before .args .cells))) (take (c .before .before .loop .k + 1) allLines))
+    → c .before .before .loop .at + length ((lineText (c .before .before .before .before .args .frame) (entry (c .before .before .before .before .args .table .now)) (c .before .before .before .before .args .renderer) (c .before .before .before .before .args .row) (c .before .before .before .before .args .mark) (take (c .before .before .before .before .args .width) (c .before .before .before .before .args .cells))) (c .line-at .result))
+    ≡ length (joins (lineText (c .before .before .before .before .args .frame) (entry (c .before .before .before .before .args .table .now)) (c .before .before .before .before .args .renderer) (c .before .before .before .before .args .row) (c .before .before .before .before .args .mark) (take (c .before .before .before .before .args .width) (c .before .before .before .before .args .cells))) (take (c .before .before .loop .k + 1) allLines))
 grown c =
     let a = c .before .before .before .before .args in
     let l = c .before .before .loop in
-    next-length (lineText (entry (a .table .now)) (a .renderer) (a .row) (a .mark) (take (a .width) (a .cells))) allLines (l .k) PostAncestry (omega arith) (l .inv .4) (ap (λ z. length ((lineText (entry (a .table .now)) (a .renderer) (a .row) (a .mark) (take (a .width) (a .cells))) z)) (c .line-at .ensures))
+    next-length (lineText (a .frame) (entry (a .table .now)) (a .renderer) (a .row) (a .mark) (take (a .width) (a .cells))) allLines (l .k) PostAncestry (omega arith) (l .inv .4) (ap (λ z. length ((lineText (a .frame) (entry (a .table .now)) (a .renderer) (a .row) (a .mark) (take (a .width) (a .cells))) z)) (c .line-at .ensures))
 
 loop-holds : tie.Need-loop-holds Inv-loop μ-loop
 loop-holds c = search needs
@@ -56,12 +56,12 @@ part-write-line-end c = search needs
 write-line-requires : tie.Need-write-line-requires Inv-loop μ-loop
 write-line-requires c κs = let a = c .before .before .before .before .before .args in
     let l = c .before .before .before .loop in
-    (l .inv .1, omega (arith, part-room (l .out) (l .at), grown (c .before), joins-within (lineText (entry (a .table .now)) (a .renderer) (a .row) (a .mark) (take (a .width) (a .cells))) allLines (l .k + 1)))
+    (l .inv .1, omega (arith, part-room (l .out) (l .at), grown (c .before), joins-within (lineText (a .frame) (entry (a .table .now)) (a .renderer) (a .row) (a .mark) (take (a .width) (a .cells))) allLines (l .k + 1)))
 
 add-at : tie.Need-add-at Inv-loop μ-loop
 add-at c = let a = c .before .before .before .before .before .before .before .before .args in
     let l = c .before .before .before .before .before .before .loop in
-    omega (arith, grown (c .before .before .before .before), joins-within (lineText (entry (a .table .now)) (a .renderer) (a .row) (a .mark) (take (a .width) (a .cells))) allLines (l .k + 1), c .before .before .write-line .ensures .0)
+    omega (arith, grown (c .before .before .before .before), joins-within (lineText (a .frame) (entry (a .table .now)) (a .renderer) (a .row) (a .mark) (take (a .width) (a .cells))) allLines (l .k + 1), c .before .before .write-line .ensures .0)
 
 add-k : tie.Need-add-k Inv-loop μ-loop
 add-k c = search needs
@@ -79,7 +79,7 @@ loop-again c = let a = c .before .before .before .before .before .before .before
       l .inv .2,
       part-length (l .out) (w .last .0) (l .at) (w .kept .0) (room g) ∙ l .inv .3,
       omega (arith, grown g, w .ensures .0),
-      next-over (lineText (entry (a .table .now)) (a .renderer) (a .row) (a .mark) (take (a .width) (a .cells))) allLines (l .k) PostAncestry _ (omega arith) (l .inv .5) (l .inv .4) (ap (lineText (entry (a .table .now)) (a .renderer) (a .row) (a .mark) (take (a .width) (a .cells))) (g .line-at .ensures)) (w .ensures .1),
+      next-over (lineText (a .frame) (entry (a .table .now)) (a .renderer) (a .row) (a .mark) (take (a .width) (a .cells))) allLines (l .k) PostAncestry _ (omega arith) (l .inv .5) (l .inv .4) (ap (lineText (a .frame) (entry (a .table .now)) (a .renderer) (a .row) (a .mark) (take (a .width) (a .cells))) (g .line-at .ensures)) (w .ensures .1),
     )
 
 same-length : tie.Need-same-length Inv-loop μ-loop
@@ -88,7 +88,7 @@ same-length c = search needs
 returns : tie.Need-returns Inv-loop μ-loop
 returns c = let a = c .before .before .before .args in
     let l = c .before .loop in
-    (end-length (lineText (entry (a .table .now)) (a .renderer) (a .row) (a .mark) (take (a .width) (a .cells))) allLines (l .k) (omega arith) (l .inv .4), end-over (lineText (entry (a .table .now)) (a .renderer) (a .row) (a .mark) (take (a .width) (a .cells))) allLines (l .k) _ (omega arith) (l .inv .5))
+    (end-length (lineText (a .frame) (entry (a .table .now)) (a .renderer) (a .row) (a .mark) (take (a .width) (a .cells))) allLines (l .k) (omega arith) (l .inv .4), end-over (lineText (a .frame) (entry (a .table .now)) (a .renderer) (a .row) (a .mark) (take (a .width) (a .cells))) allLines (l .k) _ (omega arith) (l .inv .5))
 
 pub write-lines-spec : {M : Type 1} → statement M
 write-lines-spec =

@@ -1,0 +1,3 @@
+pub mod LineBytes
+pub mod Room
+pub mod StepLaws

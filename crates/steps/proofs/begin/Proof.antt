@@ -1,0 +1,16 @@
+use mathlib.Core.Path.{_≡_, ap}
+use mathlib.Core.List.{[]}
+use Rattle.shaper.specs.Shaper.{View, Reply}
+use Rattle.steps.specs.Steps.{ProgressView}
+use borrow.Author.Needs.{needs}
+use Rattle.steps.proofs.begin.Statement.{statement}
+use Rattle.steps.proofs.begin.Tie as tie
+
+with-options-requires : tie.Need-with-options-requires
+with-options-requires c κs = search needs
+
+returns : tie.Need-returns
+returns c = ap (λ (r : Reply). record { view = r .view; text = record { queued = []; height = 0 }; number = 0 }) (c .before .with-options .ensures .reply)
+
+pub begin-spec : {M : Type 1} → statement M
+begin-spec = tie.close (tie.spec with-options-requires returns)

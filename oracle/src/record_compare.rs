@@ -1,0 +1,172 @@
+//! Compares the two programs with the Rust on generated record files, byte for byte.
+
+use std::collections::BTreeMap;
+use std::io;
+use std::sync::atomic::AtomicU32;
+use std::sync::atomic::Ordering;
+use std::sync::Mutex;
+use std::thread;
+
+use crate::programs;
+use crate::record_files;
+use crate::refusals;
+use crate::replay::Ended;
+use crate::replay::Replay;
+
+/// How one of the programs is run on the Rust.
+type Draws = fn(&[u8], &mut Vec<u8>) -> io::Result<()>;
+
+/// A program under test, and the same on the Rust.
+pub struct Program {
+    name: &'static str,
+    ours: Replay,
+    rust: Draws,
+}
+
+/// What is compared.
+pub struct Task {
+    pub files: u32,
+    pub seed: u64,
+    pub programs: [Program; 2],
+    pub threads: u32,
+}
+
+/// What came out of a comparison.
+#[derive(Default)]
+struct Findings {
+    files: u32,
+    records: usize,
+    refusals: BTreeMap<(&'static str, String), u32>,
+    difference: bool,
+}
+
+impl Program {
+    /// The page program.
+    pub fn page(ours: Replay) -> Self {
+        Self {
+            name: "page",
+            ours,
+            rust: |records, out| programs::page(records, out),
+        }
+    }
+
+    /// The listing program.
+    pub fn listing(ours: Replay) -> Self {
+        Self {
+            name: "listing",
+            ours,
+            rust: |records, out| programs::listing(records, out),
+        }
+    }
+
+    /// What the Rust gives for a file.
+    fn expected(&self, file: &[u8]) -> Vec<u8> {
+        let mut out = Vec::new();
+        (self.rust)(file, &mut out).expect("writing to memory passes");
+        out
+    }
+
+    /// Whether both sides differ on a file.
+    fn differs(&self, file: &[u8]) -> bool {
+        let expected = self.expected(file);
+        let run = self.ours.run(file, expected.len());
+        run.printed != expected || run.ended != Ended::Well
+    }
+
+    /// Prints a file on which both sides differ, after leaving out each record that the difference does without.
+    fn report(&self, number: u32, mut file: Vec<u8>) {
+        let mut at = 0;
+        while at < file.len() {
+            let end = file.len().min(at + refusals::RECORD);
+            let fewer = [&file[..at], &file[end..]].concat();
+            if self.differs(&fewer) {
+                file = fewer;
+            } else {
+                at = end;
+            }
+        }
+        let expected = self.expected(&file);
+        let run = self.ours.run(&file, expected.len());
+        println!(
+            "difference of {} in file {number}, made smaller:",
+            self.name
+        );
+        for record in file.chunks(refusals::RECORD) {
+            let bytes = record.iter().map(|byte| format!("{byte:02x}"));
+            println!("  {}", bytes.collect::<String>());
+        }
+        println!("the Rust writes:\n{}", expected.escape_ascii());
+        println!("the program writes:\n{}", run.printed.escape_ascii());
+        println!("the program ended: {:?}", run.ended);
+    }
+}
+
+impl Task {
+    /// Compares, prints what came out, and says whether there was no difference.
+    pub fn run(&self) -> bool {
+        let findings = self.compare();
+        if !findings.difference {
+            findings.print();
+        }
+        !findings.difference
+    }
+
+    /// Compares, in as many threads as asked.
+    fn compare(&self) -> Findings {
+        let next = AtomicU32::new(0);
+        let findings = Mutex::default();
+        thread::scope(|scope| {
+            for _ in 0..self.threads.max(1) {
+                scope.spawn(|| self.compare_files(&next, &findings));
+            }
+        });
+        findings.into_inner().expect("no thread panics")
+    }
+
+    /// Compares file after file, until they are used up or a difference is found.
+    fn compare_files(&self, next: &AtomicU32, findings: &Mutex<Findings>) {
+        loop {
+            let number = next.fetch_add(1, Ordering::Relaxed);
+            if number >= self.files || findings.lock().expect("no thread panics").difference {
+                return;
+            }
+            let file = record_files::file(self.seed, number);
+            let wrong = self.programs.iter().find(|program| program.differs(&file));
+            let mut findings = findings.lock().expect("no thread panics");
+            if let (Some(program), false) = (wrong, findings.difference) {
+                program.report(number, file);
+                findings.difference = true;
+                return;
+            }
+            findings.add(&file, &self.programs);
+        }
+    }
+}
+
+impl Findings {
+    /// Adds a file on which nothing differs.
+    fn add(&mut self, file: &[u8], programs: &[Program]) {
+        self.files += 1;
+        self.records += file.len() / refusals::RECORD;
+        for program in programs {
+            let refusal = refusal(&program.expected(file)).unwrap_or_else(|| "none".to_owned());
+            *self.refusals.entry((program.name, refusal)).or_default() += 1;
+        }
+    }
+
+    /// Prints the counts, and the closing line.
+    fn print(&self) {
+        println!("whole records {}", self.records);
+        for ((name, refusal), count) in &self.refusals {
+            println!("{name} refusal {refusal} {count}");
+        }
+        println!("compared {} record files: no difference", self.files);
+    }
+}
+
+/// The number in the line that a program stops with, if it does.
+fn refusal(written: &[u8]) -> Option<String> {
+    let text = String::from_utf8_lossy(written);
+    let mut words = text.lines().last()?.split(' ');
+    (words.next()? == "refused").then(|| words.next().unwrap_or_default().to_owned())
+}
