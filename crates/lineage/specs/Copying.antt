@@ -1,0 +1,9 @@
+-- A list's entries copied one after the other.
+use mathlib.Core.List.{List, [], _∷_}
+use Rattle.render.specs.declared.render.Entry.{Entry}
+use Rattle.render.specs.declared.render.Entries.{Entries}
+use Rattle.render.specs.Entries.{pushed}
+
+abbrev pub copied : Entries → List Entry → Entries
+copied es [] = es
+copied es (e ∷ l) = copied (pushed es e) l
