@@ -11,6 +11,7 @@ use std::time::Instant;
 use crate::answering::answered;
 use crate::answering::answers_of;
 use crate::calls;
+use crate::lengths;
 use crate::machine::Counts;
 use crate::refusals;
 use crate::replay::Ended;
@@ -89,11 +90,19 @@ impl Findings {
         self.difference = self.difference.take().or(difference);
     }
 
-    /// Prints the counts of calls and refusals, and the closing line.
+    /// Prints the counts of calls, of lengths and of refusals, and the closing line.
     fn print(&self) {
         println!("lists {}", self.lists);
         for (letter, count) in &self.counts.calls {
             println!("calls {} {count}", char::from(*letter));
+        }
+        for letter in *b"WVT" {
+            let count = |length: &usize| self.counts.of_length(letter, *length);
+            let lengths: Vec<_> = lengths::COUNTS
+                .iter()
+                .map(|length| format!("{length}: {}", count(length)))
+                .collect();
+            println!("entries {} {}", char::from(letter), lengths.join(", "));
         }
         for number in 0..=refusals::LAST {
             println!("refusal {number} {}", self.counts.of_refusal(number));

@@ -81,18 +81,24 @@ impl Output {
     }
 }
 
-/// How often each call was made, by its letter and refusal number, and how many cells renderer calls drew.
+/// How often each call was made, by its letter and refusal number, row, width and text calls also by how many entries they have, and how
+/// many cells renderer calls drew.
 #[derive(Clone, Debug, Default)]
 pub struct Counts {
     pub calls: BTreeMap<u8, u64>,
     pub refusals: BTreeMap<(u8, u8), u64>,
+    pub entries: BTreeMap<(u8, usize), u64>,
     pub cells: u64,
 }
 
 impl Counts {
     /// Counts one answered call.
-    fn add(&mut self, letter: u8, answer: &Answer) {
+    fn add(&mut self, command: &Command, answer: &Answer) {
+        let letter = command.letter();
         *self.calls.entry(letter).or_default() += 1;
+        if let Some(entries) = command.entries() {
+            *self.entries.entry((letter, entries.len())).or_default() += 1;
+        }
         if let Some(number) = answer.refusal() {
             *self.refusals.entry((letter, number)).or_default() += 1;
         }
@@ -106,12 +112,20 @@ impl Counts {
         for (place, count) in &other.refusals {
             *self.refusals.entry(*place).or_default() += count;
         }
+        for (place, count) in &other.entries {
+            *self.entries.entry(*place).or_default() += count;
+        }
         self.cells += other.cells;
     }
 
     /// How often calls with this letter were made.
     pub fn of_letter(&self, letter: u8) -> u64 {
         self.calls.get(&letter).copied().unwrap_or(0)
+    }
+
+    /// How often calls with this letter had so many entries.
+    pub fn of_length(&self, letter: u8, length: usize) -> u64 {
+        self.entries.get(&(letter, length)).copied().unwrap_or(0)
     }
 
     /// How often this refusal number was given, 0 for a call that passed.
@@ -147,12 +161,11 @@ impl Machine {
 
     /// Runs a command and counts it; one that is not built changes nothing.
     pub fn run(&mut self, command: &Command) -> Answer {
-        let letter = command.letter();
-        if !self.built.know(letter) {
+        if !self.built.know(command.letter()) {
             return Answer::NotBuilt;
         }
         let answer = self.call(command);
-        self.counts.add(letter, &answer);
+        self.counts.add(command, &answer);
         if let Answer::Renderer(0, _) = answer {
             self.counts.cells += self.shape.width;
         }

@@ -8,6 +8,7 @@ mod codes;
 mod compare;
 mod demand3;
 mod generator;
+mod lengths;
 mod machine;
 mod marked;
 mod programs;

@@ -328,6 +328,16 @@ impl Command {
         }
     }
 
+    /// The entries of a row, a width or a text call, unless they are absent.
+    pub fn entries(&self) -> Option<&[Entry]> {
+        match self {
+            Command::Row(row) => Some(&row.entries),
+            Command::Width(width) if width.has_entries != 0 => Some(&width.entries),
+            Command::Text(text) => Some(&text.row.entries),
+            _ => None,
+        }
+    }
+
     /// The command with this letter, its fields not yet read.
     fn blank(letter: u8) -> Command {
         match letter {

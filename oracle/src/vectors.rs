@@ -1,10 +1,11 @@
-//! The vector stream: the marked rows, the format, and a sample of generated lists.
+//! The vector stream: the marked rows, the format, lists of every length, and a sample of generated lists.
 
 use std::collections::BTreeMap;
 use std::collections::BTreeSet;
 
 use crate::answering::answered;
 use crate::generator;
+use crate::lengths;
 use crate::marked;
 use crate::stream::encode;
 use crate::stream::Letters;
@@ -13,6 +14,8 @@ use crate::stream::Letters;
 const SEED: u64 = 1;
 /// The number of the list about the format, after M1 to M10.
 const FORMAT_LIST: u32 = 11;
+/// The number of the first list about the lengths of lists.
+const LENGTH_LISTS: u32 = 12;
 /// The first list number of the sample of commands that are built.
 const BUILT_LISTS: u32 = 1000;
 /// The first list number of the sample of all commands.
@@ -33,6 +36,9 @@ pub fn stream(built: &Letters) -> Vec<u8> {
         .flat_map(|list| encode(list))
         .collect();
     stream.extend(marked::format_list(FORMAT_LIST));
+    for list in lengths::lists(LENGTH_LISTS) {
+        stream.extend(encode(&list));
+    }
     stream.extend(sample(BUILT_LISTS, built));
     stream.extend(sample(ALL_LISTS, &Letters::all()));
     stream.extend(marked::cut_command());

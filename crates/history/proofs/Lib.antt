@@ -5,3 +5,5 @@ pub mod AsRow
 pub mod Keeps
 pub mod Refuted
 pub mod Accepted
+pub mod LentKeeps
+pub mod LentCase

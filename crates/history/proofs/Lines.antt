@@ -1,12 +1,11 @@
 -- The head line and the foot line of every renderer show the pad lines that the shape gives: the five choose alike.
-use Prim.Native.Nat.{ℕ, suc}
-use mathlib.Core.Path.{_≡_, refl, sym, _∙_, ap}
+use Prim.Native.Nat.{ℕ}
+use mathlib.Core.Path.{_≡_, refl, _∙_, ap}
 use mathlib.Core.Logic.{_≢_}
-use mathlib.Core.Bool.{Bool, true, false, cond}
+use mathlib.Core.Bool.{Bool, true, false}
 use mathlib.Core.List.{List, [], _∷_, map}
 use borrow.Author.Tests.{ne-eqb}
 use native.Mathlib.Omega.{arith}
-use lib.Dec.{eqb}
 use Rattle.render.specs.declared.render.PadLine.{PadLine}
 use Rattle.render.specs.declared.render.PadLine.the-variants as pad
 use Rattle.render.specs.declared.types.RowShape.{RowShape}
@@ -14,7 +13,7 @@ use Rattle.render.specs.Lines.{preNodeLine, postAncestryLine}
 use Rattle.glyphs.specs.declared.Renderer.{Renderer}
 use Rattle.glyphs.specs.declared.types.Line.{Line}
 use Rattle.glyphs.specs.declared.types.Line.the-variants.{PreNode, Node, PostNode, Link, SecondLink, Term, SecondTerm, Ancestry, PostAncestry}
-use Rattle.glyphs.specs.Cells.{PrefixLine, isPresent, keep, lineOf, lines}
+use Rattle.glyphs.specs.Cells.{isPresent, keep, lineOf, lines}
 use Rattle.glyphs.specs.Row.{rowOf}
 use Rattle.glyphs.proofs.Alike.{stroke, pads-alike}
 use Rattle.prefix_lines.specs.PrefixLines.{letter}

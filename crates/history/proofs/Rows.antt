@@ -1,34 +1,32 @@
 -- A row: the swap, the reset, and what they leave of the ids that wait, of their columns, and of the lines.
-use Prim.Native.Nat.{ℕ, zero, suc, _+_, _-_, _≤_, _<_, max, min}
+use Prim.Native.Nat.{ℕ, zero, suc, _+_, _-_, _≤_, _<_}
 use mathlib.Core.Path.{_≡_, refl, sym, _∙_, ap, subst}
 use mathlib.Core.Logic.{_≢_, _↔_}
 use mathlib.Core.Bool.{Bool, true, false, cond}
 use mathlib.Core.List.{List, [], _∷_, map, _++_}
-use mathlib.Core.Option.{Option, none, some, Option·none-ne-some, Option·some-injective}
+use mathlib.Core.Option.{some, Option·none-ne-some, Option·some-injective}
 use native.Mathlib.Omega.{arith}
 use native.Mathlib.Decide.{ℕ-discrete}
 use borrow.Author.Tests.{eqb-true, eqb-false, ltb-true, ltb-false, lt-ltb, ne-eqb}
 use lib.Dec.{eqb, ltb}
-use lib.ListN.{length, getD, take, replicate, List·getD-map, List·getD-eq-default, length-map}
+use lib.ListN.{length, take, replicate, List·getD-eq-default}
 use lib.Seq.{take-at}
 use Rattle.column.specs.declared.Column.{Column}
 use Rattle.column.specs.declared.Column.the-variants.{Empty, Blocked, Reserved, Ancestor, Parent}
 use Rattle.column.specs.declared.Found.{Found}
 use Rattle.column.specs.declared.Found.the-variants.{At, Nothing}
-use Rattle.column.specs.Columns.{columnLimit, rank, idOf, find, vacant, orElse, merge, isReserved, isParent, unblock, keep, trim, isEmpty, reset, at, put}
+use Rattle.column.specs.Columns.{columnLimit, rank, idOf, find, vacant, orElse, merge, isReserved, isParent, unblock, keep, trim, at, put}
 use Rattle.column.proofs.Positions.{at-put-same, at-put-other, length-put, past-end}
 use Rattle.render.specs.declared.render.Ancestor.{Ancestor as Entry}
-use Rattle.render.specs.declared.render.NodeLine.{NodeLine}
 use Rattle.render.specs.declared.render.NodeLine.the-variants as node
-use Rattle.render.specs.declared.render.PadLine.{PadLine}
 use Rattle.render.specs.declared.types.Cell.{Cell}
 use Rattle.render.specs.declared.types.DashStyle.{DashStyle}
 use Rattle.render.specs.declared.types.DashStyle.the-variants.{Persistent, Once}
 use Rattle.render.specs.Entries.{entryId}
-use Rattle.render.specs.Lines.{blankCell, cellsOf, nodeToPad, footPad, preNodeLine, postAncestryLine}
+use Rattle.render.specs.Lines.{blankCell, nodeToPad, footPad, preNodeLine, postAncestryLine}
 use Rattle.shaper.specs.Shaper.{View}
-use Rattle.shaper.specs.NodeColumn.{dense, staggered, unallocated, nodeColumn, head}
-use Rattle.placing.specs.Placing.{columnOf, spot, enter, walk, swap, gaveUp, swapped, dashed, Placed, placeAt, drawsAt}
+use Rattle.shaper.specs.NodeColumn.{dense, staggered, nodeColumn, head}
+use Rattle.placing.specs.Placing.{columnOf, spot, enter, walk, swap, gaveUp, swapped, dashed, placeAt, drawsAt}
 use Rattle.links.specs.declared.Met.{Met}
 use Rattle.links.specs.declared.Swap.{Swap}
 use Rattle.links.specs.declared.AncestorColumnBounds.{AncestorColumnBounds}
@@ -36,11 +34,11 @@ use Rattle.links.specs.Links.{boundsOf, linked}
 use Rattle.cells.specs.Cells.{besideNode, padOf, cellOf, cellsFrom}
 use Rattle.cells.specs.Inner.{nodeCell}
 use Rattle.row_shape.specs.Row.{shapeAt}
-use Rattle.marked.proofs.Holding.{Where, away, there, findIs, at-vacant, at-staggered, Spot, spotIs, nodeSpot, spot-only, empty-holds, enter-stays, walk-stays, flip, flip-left, flip-else, flip-flip, at-swap, finish, dash, at-finish, ids-kept, finish-stays}
+use Rattle.marked.proofs.Holding.{Where, away, there, findIs, at-vacant, at-staggered, Spot, spotIs, nodeSpot, spot-only, empty-holds, enter-stays, walk-stays, flip, flip-left, flip-else, flip-flip, at-swap, finish, dash, at-finish, end-keeps, ids-kept, finish-stays}
 use Rattle.placing.proofs.PlacingLaws.{walk-more}
 use Rattle.cells.proofs.CellLaws.{length-cells}
-use Rattle.history.specs.Account.{Call, Reserve, Row, Wait, Idle, AsReserved, AsNamed, Waiting, named, waitsAfter}
-use Rattle.history.specs.Demand3.{Stroke, Blank, Dashed, Solid, Holds, waitOf, Wait-in, Tidy, OneEntry, cell, isStroke, solid, overNode}
+use Rattle.history.specs.Account.{Row, AsNamed, Waiting, waitsAfter}
+use Rattle.history.specs.Demand3.{Stroke, Blank, Holds, waitOf, Wait-in, Tidy, OneEntry, cell, isStroke, solid, overNode}
 use Rattle.history.proofs.Lines.{padStroke}
 use Rattle.history.proofs.Waits.{places, spot-alone, walk-keeps, bare-keeps, ending}
 
@@ -81,16 +79,7 @@ settle-moves c (e ∷ []) cs w i x W b h = (pulled (spot c e cs) (spotIs c e cs)
 
 -- ---- the end of a row
 kinds-kept : (d : DashStyle) (c : Column) → waitOf (unblock (dash d c)) ≡ waitOf c
-kinds-kept Persistent Empty = refl
-kinds-kept Persistent Blocked = refl
-kinds-kept Persistent (Reserved n) = refl
-kinds-kept Persistent (Ancestor n) = refl
-kinds-kept Persistent (Parent n) = refl
-kinds-kept Once Empty = refl
-kinds-kept Once Blocked = refl
-kinds-kept Once (Reserved n) = refl
-kinds-kept Once (Ancestor n) = refl
-kinds-kept Once (Parent n) = refl
+kinds-kept = end-keeps waitOf refl (λ n. refl)
 
 finish-keeps : (d : DashStyle) (cs : List Column) (w : Waiting) → Wait-in cs w → Wait-in (finish d cs) w
 finish-keeps d cs w W =

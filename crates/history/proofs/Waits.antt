@@ -1,5 +1,5 @@
 -- The ids in the columns are those that wait: one law for a column that is written, and one for columns that change places.
-use Prim.Native.Nat.{ℕ, zero, suc}
+use Prim.Native.Nat.{ℕ}
 use mathlib.Core.Path.{_≡_, refl, sym, _∙_, ap}
 use mathlib.Core.Logic.{_≢_}
 use mathlib.Core.Bool.{Bool, true, false, cond, _||_}
@@ -12,8 +12,7 @@ use lib.Dec.{eqb}
 use Rattle.column.specs.declared.Column.{Column}
 use Rattle.column.specs.declared.Column.the-variants.{Empty, Blocked, Reserved, Ancestor, Parent}
 use Rattle.column.specs.declared.Found.{Found}
-use Rattle.column.specs.declared.Found.the-variants.{At, Nothing}
-use Rattle.column.specs.Columns.{idOf, isId, find, vacant, merge, at, put}
+use Rattle.column.specs.Columns.{idOf, find, vacant, merge, at, put}
 use Rattle.column.proofs.Positions.{at-put-same, at-put-other}
 use Rattle.render.specs.declared.render.Ancestor.{Ancestor as Entry}
 use Rattle.render.specs.declared.render.Ancestor.the-variants.{Ancestor as Indirect, Parent as Direct, Anonymous}
@@ -21,7 +20,7 @@ use Rattle.render.specs.Entries.{entryId}
 use Rattle.shaper.specs.Shaper.{reserved, reservedIn}
 use Rattle.placing.specs.Placing.{columnOf, spot, enter, walk}
 use Rattle.marked.proofs.Holding.{Where, away, there, findIs, at-vacant, Spot, taken, free, spotIs, spot-only, empty-holds, merge-empty, spot-id}
-use Rattle.history.specs.Account.{Call, Reserve, Row, Wait, Idle, AsReserved, AsNamed, Waiting, names, named, unlessWaiting, waitsAfter}
+use Rattle.history.specs.Account.{Reserve, Wait, Idle, AsReserved, AsNamed, Waiting, names, named, unlessWaiting, waitsAfter}
 use Rattle.history.specs.Demand3.{Holds, waitOf, Wait-in}
 
 pub decId : (o : Option ℕ) (x : ℕ) → Dec (o ≡ some x)

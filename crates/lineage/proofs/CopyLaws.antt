@@ -4,13 +4,12 @@ use Prim.Native.Nat.{ℕ, zero, suc, _+_, _-_, _<_, _≤_}
 use native.Mathlib.Nat.{zero-add, suc-add}
 use native.Mathlib.Omega.{arith}
 use mathlib.Core.Bool.{Bool, true, false, cond}
-use mathlib.Core.List.{List, [], _∷_, _++_, map, append-assoc, append-nil}
-use borrow.Author.Tests.{lt-ltb, lt-leb, le-leb, ltb-true, ltb-false}
-use lib.Dec.{T, ltb, leb}
+use mathlib.Core.List.{List, [], _∷_, _++_, append-assoc, append-nil}
+use borrow.Author.Tests.{lt-leb, le-leb, ltb-true, ltb-false}
+use lib.Dec.{T, leb}
 use lib.ListN.{length, set, replicate, length-append}
 use lib.Seq.{take-at, set-at}
 use Rattle.render.specs.declared.render.Ancestor.the-variants.{Anonymous}
-use Rattle.render.specs.declared.render.Ancestor.{Ancestor}
 use Rattle.render.specs.declared.render.Entry.{Entry}
 use Rattle.render.specs.declared.render.Entries.{Entries}
 use Rattle.render.specs.Entries.{entryLimit, listed, tooMany, pushed, noEntries}

@@ -1,2 +1,4 @@
 pub mod CopyLaws
 pub mod LentLaws
+pub mod WalkLaws
+pub mod Copied

@@ -1,16 +1,43 @@
-// The public calls in lent forms, each thin over its by-value core.
+// The public calls: reserving, row, width and text in lent forms, each thin over its by-value core; the others are passed on as they are.
 ghost use Rattle.row_shape.specs.Promises.{Rows};
 ghost use Rattle.lineage.specs.Promises.{Copies, Reserved, Rowed, Measured, Written};
-use glyphs::Renderer;
-use output::TextState;
 use render::Entries;
-use render::Entry;
-use render::RowShape;
 use row_shape::next_row_shape;
-use shaper::Shaper;
 use text::write_next_text;
-use width::NewNode;
-use width::WidthAnswer;
+
+// The new shaper call is `Shaper::with_options`, which gives an `Answer`.
+pub use column::Column;
+pub use column::Found;
+pub use column::Slot;
+pub use render::DashStyle;
+pub use render::LinkLinePlacement;
+pub use render::Options;
+pub use render::Style;
+pub use shaper::Answer;
+pub use shaper::Shaper;
+
+// What the row, width and text calls take and give.
+pub use glyphs::Renderer;
+pub use output::TextState;
+pub use render::Ancestor;
+pub use render::Cell;
+pub use render::Entry;
+pub use render::LinkLine;
+pub use render::NodeLine;
+pub use render::PadLine;
+pub use render::RowShape;
+pub use width::NewNode;
+pub use width::WidthAnswer;
+
+// The renderer call.
+pub use prefix_lines::Written as LinesAnswer;
+pub use prefix_lines::next_prefix_lines;
+
+// The record call.
+pub use record::Outcome;
+pub use record::Record;
+pub use record::RecordAnswer;
+pub use record::next_record;
 
 // What the row call gives: the refusal's number and the shape.
 pub struct ShapeAnswer {

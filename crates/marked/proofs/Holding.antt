@@ -1,6 +1,6 @@
 -- Which column holds an id, and that a row keeps the ids it should: laws of the definitions over any list of columns.
-use Prim.Native.Nat.{ℕ, zero, suc, _+_, _≤_, _<_}
-use mathlib.Core.Path.{_≡_, refl, sym, _∙_, ap, subst}
+use Prim.Native.Nat.{ℕ, zero, suc, _<_}
+use mathlib.Core.Path.{_≡_, refl, sym, _∙_, ap}
 use mathlib.Core.Logic.{_≢_}
 use mathlib.Core.Bool.{Bool, true, false, cond, _||_, false≢true}
 use mathlib.Core.List.{List, [], _∷_, map}
@@ -8,14 +8,14 @@ use mathlib.Core.Option.{Option, none, some, Option·none-ne-some, Option·some-
 use native.Mathlib.Nat.{not-suc-le-zero, le-of-suc-le-suc}
 use native.Mathlib.Omega.{arith}
 use native.Mathlib.Decide.{ℕ-discrete, decLt}
-use borrow.Author.Tests.{eqb-true, eqb-false, eq-eqb, ne-eqb, leb-true}
+use borrow.Author.Tests.{eqb-true, eqb-false, eq-eqb, ne-eqb}
 use lib.Dec.{eqb, ltb}
 use lib.ListN.{length, getD, set, List·getD-eq-default}
 use Rattle.column.specs.declared.Column.{Column}
 use Rattle.column.specs.declared.Column.the-variants.{Empty, Blocked, Reserved, Ancestor, Parent}
 use Rattle.column.specs.declared.Found.{Found}
 use Rattle.column.specs.declared.Found.the-variants.{At, Nothing}
-use Rattle.column.specs.Columns.{idOf, isId, holds, isEmpty, first, next, find, findEmpty, orElse, vacant, merge, direct, unblock, trim, reset, at, put}
+use Rattle.column.specs.Columns.{rank, idOf, isId, holds, isEmpty, first, next, find, findEmpty, orElse, vacant, merge, direct, unblock, reset, at, put}
 use Rattle.column.proofs.Laws.{trim-at}
 use Rattle.column.proofs.Positions.{at-put-same, at-put-other, past-end}
 use Rattle.render.specs.declared.render.Ancestor.{Ancestor as Entry}
@@ -25,7 +25,7 @@ use Rattle.render.specs.declared.types.DashStyle.the-variants.{Persistent, Once
 use Rattle.render.specs.Entries.{entryId}
 use Rattle.shaper.specs.Shaper.{View}
 use Rattle.shaper.specs.NodeColumn.{dense, staggered, unallocated, nodeColumn}
-use Rattle.placing.specs.Placing.{columnOf, heldBy, spot, enter, walk, swap, gaveUp, swapped, dashed}
+use Rattle.placing.specs.Placing.{columnOf, spot, enter, walk, swap, gaveUp, swapped, dashed}
 
 -- column i holds the id x
 abbrev pub Holds : List Column → ℕ → ℕ → Type 0
@@ -161,23 +161,17 @@ merge-empty c e z = ap (λ (d : Column). merge d (columnOf e)) z ∙ go e
     go (Indirect n) = refl
     go (Direct n) = refl
 
-merge-id : (c : Column) (e : Entry) (n : ℕ) → idOf c ≡ some n → entryId e ≡ some n → idOf (merge c (columnOf e)) ≡ some n
-merge-id Empty e n p q = absurd (Option·none-ne-some n p)
-merge-id Blocked e n p q = absurd (Option·none-ne-some n p)
-merge-id (Reserved m) Anonymous n p q = absurd (Option·none-ne-some n q)
-merge-id (Reserved m) (Indirect k) n p q = q
-merge-id (Reserved m) (Direct k) n p q = q
-merge-id (Ancestor m) Anonymous n p q = absurd (Option·none-ne-some n q)
-merge-id (Ancestor m) (Indirect k) n p q = p
-merge-id (Ancestor m) (Direct k) n p q = q
-merge-id (Parent m) Anonymous n p q = absurd (Option·none-ne-some n q)
-merge-id (Parent m) (Indirect k) n p q = p
-merge-id (Parent m) (Direct k) n p q = p
-
 pub column-id : (e : Entry) → idOf (columnOf e) ≡ entryId e
 column-id Anonymous = refl
 column-id (Indirect n) = refl
 column-id (Direct n) = refl
+
+merge-id : (c : Column) (e : Entry) (n : ℕ) → idOf c ≡ some n → entryId e ≡ some n → idOf (merge c (columnOf e)) ≡ some n
+merge-id c e n p q = go (ltb (rank c) (rank (columnOf e)))
+  where
+    go : (t : Bool) → idOf (cond t (columnOf e) c) ≡ some n
+    go true = column-id e ∙ q
+    go false = p
 
 pub spot-id : (e : Entry) (cs : List Column) (k : ℕ) → Spot (entryId e) cs k → idOf (merge (at cs k) (columnOf e)) ≡ entryId e
 spot-id e cs k (taken n z q) = merge-id (at cs k) e n q z ∙ sym z
@@ -270,17 +264,21 @@ at-dashed Once cs i = at-map direct refl cs i
 pub at-finish : (d : DashStyle) (cs : List Column) (i : ℕ) → at (finish d cs) i ≡ unblock (dash d (at cs i))
 at-finish d cs i = trim-at (map unblock (dashed d cs)) i ∙ (at-map unblock refl (dashed d cs) i ∙ ap unblock (at-dashed d cs i))
 
+-- what is the same of Empty and Blocked columns, and of Parent and Ancestor ones, the end of a row keeps
+pub end-keeps : {A : Type 0} (f : Column → A) → f Empty ≡ f Blocked → ((n : ℕ) → f (Parent n) ≡ f (Ancestor n)) → (d : DashStyle) (c : Column) → f (unblock (dash d c)) ≡ f c
+end-keeps f b a Persistent Empty = refl
+end-keeps f b a Persistent Blocked = b
+end-keeps f b a Persistent (Reserved n) = refl
+end-keeps f b a Persistent (Ancestor n) = refl
+end-keeps f b a Persistent (Parent n) = refl
+end-keeps f b a Once Empty = refl
+end-keeps f b a Once Blocked = b
+end-keeps f b a Once (Reserved n) = refl
+end-keeps f b a Once (Ancestor n) = a n
+end-keeps f b a Once (Parent n) = refl
+
 pub ids-kept : (d : DashStyle) (c : Column) → idOf (unblock (dash d c)) ≡ idOf c
-ids-kept Persistent Empty = refl
-ids-kept Persistent Blocked = refl
-ids-kept Persistent (Reserved n) = refl
-ids-kept Persistent (Ancestor n) = refl
-ids-kept Persistent (Parent n) = refl
-ids-kept Once Empty = refl
-ids-kept Once Blocked = refl
-ids-kept Once (Reserved n) = refl
-ids-kept Once (Ancestor n) = refl
-ids-kept Once (Parent n) = refl
+ids-kept = end-keeps idOf refl (λ n. refl)
 
 pub finish-stays : (d : DashStyle) (cs : List Column) (i x : ℕ) → Holds cs i x → Holds (finish d cs) i x
 finish-stays d cs i x h = ap idOf (at-finish d cs i) ∙ (ids-kept d (at cs i) ∙ h)

@@ -1,18 +1,17 @@
 -- Theorems about the definition of the reserving call: what 01 rules out ("no column left" with columns free), and that a reservation holds its id.
-use Prim.Native.Nat.{ℕ, zero, suc, _≤_, _<_}
-use mathlib.Core.Path.{_≡_, refl, ap, _∙_, sym}
+use Prim.Native.Nat.{ℕ, zero, suc, _<_}
+use mathlib.Core.Path.{_≡_, refl, _∙_, sym}
 use mathlib.Core.Bool.{Bool, true, false}
 use mathlib.Core.List.{List, [], _∷_}
 use mathlib.Core.Logic.{_⊎_, inl, inr}
 use native.Mathlib.Omega.{arith}
-use native.Mathlib.Nat.{not-suc-le-zero, le-of-suc-le-suc}
 use lib.ListN.{length, getD}
-use borrow.Author.Tests.{eq-eqb, lt-leb, leb-true, leb-false}
+use borrow.Author.Tests.{eq-eqb, lt-leb}
 use Rattle.column.specs.declared.Column.{Column}
-use Rattle.column.specs.declared.Column.the-variants.{Empty, Blocked, Reserved, Ancestor, Parent}
+use Rattle.column.specs.declared.Column.the-variants.{Empty, Blocked, Reserved}
 use Rattle.column.specs.declared.Found.{Found}
 use Rattle.column.specs.declared.Found.the-variants.{At, Nothing}
-use Rattle.column.specs.Columns.{columnLimit, holds, isEmpty, next, first, find, orElse, vacant, put}
+use Rattle.column.specs.Columns.{columnLimit, holds, isEmpty, next, first, find, vacant, put}
 use Rattle.render.specs.Refusals.{refusal}
 use Rattle.shaper.specs.Shaper.{View, reserveChecks, reservedIn, reserve}
 

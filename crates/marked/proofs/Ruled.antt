@@ -1,9 +1,9 @@
 -- What the definitions of the row call rule out (01, "What a contract here must settle", 2): a shaper refusing every row, one page for all histories,
 -- a row that leaves the columns untouched.
-use Prim.Native.Nat.{ℕ, zero, suc, _<_}
-use mathlib.Core.Path.{_≡_, refl, sym, _∙_, ap, subst}
+use Prim.Native.Nat.{ℕ, zero, suc}
+use mathlib.Core.Path.{_≡_, refl, ap, subst}
 use mathlib.Core.Logic.{_≢_}
-use mathlib.Core.Bool.{Bool, true, false, cond}
+use mathlib.Core.Bool.{Bool, true, false}
 use mathlib.Core.List.{List, [], _∷_}
 use native.Mathlib.Omega.{arith}
 use lib.Dec.{ltb}
@@ -11,16 +11,16 @@ use lib.ListN.{length}
 use Rattle.column.specs.declared.Column.{Column}
 use Rattle.column.specs.declared.Column.the-variants.{Empty}
 use Rattle.column.specs.declared.Found.{Found}
-use Rattle.column.specs.declared.Found.the-variants.{At, Nothing}
+use Rattle.column.specs.declared.Found.the-variants.{Nothing}
 use Rattle.column.specs.Columns.{find, put}
 use Rattle.render.specs.declared.render.Ancestor.{Ancestor as Entry}
-use Rattle.render.specs.declared.render.Ancestor.the-variants.{Ancestor, Parent, Anonymous}
+use Rattle.render.specs.declared.render.Ancestor.the-variants.{Ancestor, Parent}
 use Rattle.render.specs.declared.types.Options.{Options}
 use Rattle.render.specs.Refusals.{refusal}
 use Rattle.shaper.specs.Shaper.{heightLimit, View, newShaper}
 use Rattle.shaper.specs.NodeColumn.{dense, nodeColumn}
-use Rattle.placing.specs.Placing.{placeAt, place}
-use Rattle.row_shape.specs.Row.{RowReply, rowChecks, row}
+use Rattle.placing.specs.Placing.{place}
+use Rattle.row_shape.specs.Row.{rowChecks, row}
 use Rattle.glyphs.specs.declared.Renderer.{Renderer}
 use Rattle.glyphs.specs.declared.Renderer.the-variants.{Ascii, AsciiLarge, Square, Curved, Dec}
 use Rattle.glyphs.specs.Cells.{choiceOf, bytesOf, glyphsOf}

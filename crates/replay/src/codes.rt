@@ -11,12 +11,12 @@ use column::Column;
 use column::Found;
 use column::Slot;
 use glyphs::Renderer;
+use lent::LIST_LIMIT;
 use output::QUEUE_LIMIT;
 use output::TextState;
 use render::Ancestor;
 use render::Cell;
 use render::DashStyle;
-use render::Entries;
 use render::Entry;
 use render::LinkLine;
 use render::LinkLinePlacement;
@@ -136,32 +136,38 @@ fn entry_at(payload: &[u8], at: usize) -> Entry {
     Entry { ancestor }
 }
 
-// The entries at a place: how many are given, then those.
-pub(crate) fn entries_at(payload: &[u8], at: usize) -> Entries {
-    let given = u16_at(payload, at);
-    let mut entries = Entries::none();
+// How many entries are given at a place.
+pub(crate) fn entry_count(payload: &[u8], at: usize) -> usize {
+    u16_at(payload, at) as usize
+}
+
+// The entries at a place: how many are given, then those, as far as the list goes. Entries not given are Anonymous.
+pub(crate) fn entries_at(payload: &[u8], at: usize) -> [Entry; LIST_LIMIT] {
+    let given = entry_count(payload, at);
+    let blank = entry_at(b"", 0);
+    let mut entries = [blank; LIST_LIMIT];
     let mut place = after(at, 2);
-    let mut i: u16 = 0;
-    while i < given {
-        entries = entries.push(entry_at(payload, place));
+    let mut i: usize = 0;
+    while i < given && i < LIST_LIMIT {
+        entries[i] = entry_at(payload, place);
         place = after(place, ENTRY);
         i += 1;
     }
     entries
 }
 
-// Where the entries at a place end.
+// Where the entries at a place end, those past the list's end among them.
 pub(crate) fn entries_end(payload: &[u8], at: usize) -> usize {
     let given = u16_at(payload, at) as usize;
     after(at, 2 + ENTRY * given)
 }
 
-// The entries at a place, if there are any: flag, entries. Absent ones are none.
-pub(crate) fn optional_entries_at(payload: &[u8], at: usize) -> Entries {
+// How many entries are given at a place, if there are any: flag, entries. Absent ones are none.
+pub(crate) fn optional_entry_count(payload: &[u8], at: usize) -> usize {
     if flag_at(payload, at) {
-        return entries_at(payload, after(at, 1));
+        return entry_count(payload, after(at, 1));
     }
-    Entries::none()
+    0
 }
 
 // The node at a place, if there is one: flag, id.

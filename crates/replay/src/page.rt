@@ -1,8 +1,8 @@
 // The page: the output that a renderer call or a text call writes to. It is lent to every command, and filled anew before each call.
+use crate::codes;
 use glyphs::Renderer;
 use output::TextState;
 use prefix_lines::Written;
-use render::Entries;
 use render::RowShape;
 use shaper::Shaper;
 use text::TextAnswer;
@@ -13,13 +13,12 @@ pub(crate) const ROOM: usize = 300000;
 // The page.
 pub(crate) type Page = [u8; ROOM];
 
-// What a text call is given beside the message and the output.
+// What a text call is given beside the entries, the message and the output.
 pub(crate) struct Text {
     pub(crate) shaper: Shaper,
     pub(crate) state: TextState,
     pub(crate) renderer: Renderer,
     pub(crate) node: u32,
-    pub(crate) entries: Entries,
     pub(crate) mark: u8,
 }
 
@@ -64,19 +63,19 @@ pub(crate) fn draw(
     draw_on(&mut page[0..length], shape, renderer, mark)
 }
 
-// Fills an output and makes a text call on it.
-fn write_on(output: &mut [u8], text: Text, message: &[u8]) -> TextAnswer {
+// Fills an output and makes a text call on it, with the entries at the beginning of these bytes.
+fn write_on(output: &mut [u8], text: Text, entries: &[u8], message: &[u8]) -> TextAnswer {
     fill(output);
     let shaper = text.shaper;
     let state = text.state;
     let renderer = text.renderer;
-    let entries = text.entries;
-    text::write_next_text(
+    lent::text_on(
         shaper,
         state,
         renderer,
         text.node,
-        entries,
+        codes::entries_at(entries, 0),
+        codes::entry_count(entries, 0),
         text.mark,
         message,
         output,
@@ -84,11 +83,17 @@ fn write_on(output: &mut [u8], text: Text, message: &[u8]) -> TextAnswer {
 }
 
 // Makes a text call on an output of this length, at most the page.
-pub(crate) fn write(page: &mut [u8], length: usize, text: Text, message: &[u8]) -> TextAnswer {
+pub(crate) fn write(
+    page: &mut [u8],
+    length: usize,
+    text: Text,
+    entries: &[u8],
+    message: &[u8],
+) -> TextAnswer {
     if page.len() < length {
-        return write_on(page, text, message);
+        return write_on(page, text, entries, message);
     }
-    write_on(&mut page[0..length], text, message)
+    write_on(&mut page[0..length], text, entries, message)
 }
 
 // The output of this length, at most the page.

@@ -6,7 +6,6 @@ use crate::page;
 use crate::page::Page;
 use crate::page::Text;
 use output::TextState;
-use render::Entries;
 use render::Options;
 use render::RowShape;
 use shaper::HEIGHT_LIMIT;
@@ -46,8 +45,8 @@ pub(crate) struct Reply {
 }
 
 impl State {
-    // The state at the beginning of a stream or a list: the shaper and the shape are those that refused calls give, the text
-    // state that of an empty payload.
+    // The state at the beginning of a stream or a list: the shaper is the one that a refused call gives, the shape, which a refused
+    // row gives too, and the text state are those of an empty payload.
     pub(crate) fn new() -> State {
         let graph_row_shape_style = codes::style(0, 0);
         let too_high = Options {
@@ -57,10 +56,7 @@ impl State {
         };
         let refused = Shaper::with_options(too_high);
         let shaper = refused.shaper;
-        let mut entries = Entries::none();
-        entries.too_many = true;
-        let refused_row = row_shape::next_row_shape(shaper, 0, entries);
-        let shape = refused_row.shape;
+        let shape = codes::shape(b"");
         let text = codes::text_state(b"");
         State {
             shaper,
@@ -94,7 +90,7 @@ fn new_shaper(payload: &[u8], state: State) -> Reply {
 // `R`: id.
 fn reserve(payload: &[u8], state: State) -> Reply {
     let before = state.shaper;
-    let given = before.reserve(input::u32_at(payload, 0));
+    let given = lent::reserve_on(before, input::u32_at(payload, 0));
     let answer = Answer::Reserve(given.refusal);
     let shaper = given.shaper;
     let mut after = state;
@@ -108,10 +104,11 @@ fn reserve(payload: &[u8], state: State) -> Reply {
 // `W`: node (at 0), entries (4).
 fn row(payload: &[u8], state: State) -> Reply {
     let before = state.shaper;
-    let given = row_shape::next_row_shape(
+    let given = lent::row_on(
         before,
         input::u32_at(payload, 0),
         codes::entries_at(payload, 4),
+        codes::entry_count(payload, 4),
     );
     let answer = Answer::Row(given.refusal);
     let shaper = given.shaper;
@@ -125,11 +122,16 @@ fn row(payload: &[u8], state: State) -> Reply {
     }
 }
 
-// `V`: node (at 0), entries (5).
+// `V`: node (at 0), whether there are entries (5), entries (6).
 fn width(payload: &[u8], state: State) -> Reply {
     let shaper = state.shaper;
     let node = codes::new_node_at(payload, 0);
-    let given = width::width(shaper, node, codes::optional_entries_at(payload, 5));
+    let given = lent::width_on(
+        shaper,
+        node,
+        codes::entries_at(payload, 6),
+        codes::optional_entry_count(payload, 5),
+    );
     let answer = Answer::Width(given.refusal, given.width as u64);
     Reply { answer, state }
 }
@@ -150,17 +152,16 @@ fn text_with(payload: &[u8], message: &[u8], page: &mut Page, state: State) -> R
     let shaper = state.shaper;
     let before = state.text;
     let renderer = codes::renderer(input::u8_at(payload, 0));
-    let entries = codes::entries_at(payload, 10);
     let text = Text {
         shaper,
         state: before,
         renderer,
         node: input::u32_at(payload, 6),
-        entries,
         mark: input::u8_at(payload, 1),
     };
+    let entries = input::part(payload, 10, payload.len());
     let room = input::u32_at(payload, 2) as usize;
-    let given = page::write(page, room, text, message);
+    let given = page::write(page, room, text, entries, message);
     let length = given.length as u64;
     let answer = Answer::Text(given.refusal, length, given.measure as u64, room);
     let shaper_then = given.shaper;

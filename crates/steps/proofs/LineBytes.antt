@@ -5,7 +5,7 @@ use mathlib.Core.List.{List, [], _∷_, _++_, append-assoc}
 use Prim.Native.Nat.{ℕ, zero, suc, _+_, _-_, _/_, _%_, _<_, _≤_, zero-le}
 use native.Mathlib.Omega.{arith}
 use borrow.Author.Tests.{lt-ltb, le-ltb}
-use lib.Dec.{ltb, lit≤}
+use lib.Dec.{ltb}
 use lib.ListN.{length, take, drop, set, length-append, length-set}
 use Rattle.glyphs.specs.Joins.{over}
 use Rattle.glyphs.proofs.OverLaws.{over-one, part-written, part-length}

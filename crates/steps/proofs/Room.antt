@@ -2,8 +2,8 @@
 use mathlib.Core.Path.{_≡_, refl, sym, ap, _∙_}
 use mathlib.Core.Logic.{_≢_}
 use mathlib.Core.Bool.{Bool, true, false, cond, not, _||_}
-use mathlib.Core.List.{List, [], _∷_, _++_}
-use Prim.Native.Nat.{ℕ, zero, suc, _+_, _*_, _-_, _<_, _≤_, max}
+use mathlib.Core.List.{List, _∷_, _++_}
+use Prim.Native.Nat.{ℕ, zero, suc, _+_, _*_, _-_, _≤_, max}
 use native.Mathlib.Omega.{arith}
 use borrow.Author.Tests.{le-ltb, eqb-true}
 use lib.Dec.{ltb, eqb}
@@ -33,7 +33,7 @@ use Rattle.output.specs.declared.TextState.{TextState}
 use Rattle.output.specs.Output.{queueLimit, ended, textOf, TextView, textViewOf, beginRow}
 use Rattle.output.proofs.PutLaws.{begin-short}
 use Rattle.text.specs.Text.{rowLines, textLines, textAfter, textChecks, textAnswer, text}
-use Rattle.text.specs.Inner.{lineText, drawn, spread, lineTimes, fixedLines, planOf, drawnOf}
+use Rattle.text.specs.Inner.{lineText, drawn, spread, lineTimes, planOf, drawnOf}
 use Rattle.text.proofs.RepeatLaws.{drawn-short}
 use Rattle.text.proofs.RowTextLaws.{rows-same, height-same, length-drawn, fixed-small}
 use Rattle.text.proofs.TextLineLaws.{line-short}

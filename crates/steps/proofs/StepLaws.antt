@@ -1,14 +1,14 @@
 -- Laws of a step: what a record's row, drawn or refused, gives.
 use mathlib.Core.Path.{_≡_, refl, sym, ap, ap₂, _∙_}
-use mathlib.Core.Bool.{Bool, true, false, cond, not, _||_, true≢false}
-use mathlib.Core.List.{List, [], _∷_, _++_, map}
-use Prim.Native.Nat.{ℕ, zero, suc, _+_, _-_, _<_, _≤_}
+use mathlib.Core.Bool.{Bool, true, false, cond, _||_, true≢false}
+use mathlib.Core.List.{List, [], _∷_, map}
+use Prim.Native.Nat.{ℕ, zero, suc, _-_, _≤_}
 use mathlib.Core.Logic.{⊎-elim}
 use native.Mathlib.Omega.{arith}
 use types.Run.{OneOf}
 use denote.Enum.Declared.{tagOf}
-use borrow.Author.Tests.{lt-ltb, le-ltb, ne-eqb}
-use lib.Dec.{ltb, eqb}
+use borrow.Author.Tests.{le-ltb, ne-eqb}
+use lib.Dec.{ltb}
 use lib.ListN.{length, take, drop, length-append, length-map}
 use lib.Seq.{take-append-seam}
 use Rattle.render.specs.declared.render.Ancestor.{Ancestor as Entry}
@@ -40,7 +40,7 @@ use Rattle.record.proofs.Outcome.{the-type}
 use Rattle.record.specs.Promises.{recordViewOf, Records}
 use Rattle.steps.specs.declared.Progress.{Progress}
 use Rattle.steps.specs.declared.Step.{Step}
-use Rattle.steps.specs.Steps.{refusedIn, ProgressView, StepReply, stopped, stepped, next, pageRow, listingChecks, listingRow, onRecord}
+use Rattle.steps.specs.Steps.{refusedIn, ProgressView, StepReply, stopped, stepped, next, pageRow, listingRow, onRecord}
 use Rattle.steps.specs.Promises.{progressViewOf, undrawn, Steps}
 
 -- ---- what a text call's definition says of a refusal and of what was written

@@ -56,14 +56,15 @@ impl Generator<'_> {
 
     /// The entries of a row: repeats, the node itself and Anonymous ones among them.
     pub fn entries(&mut self, node: u32) -> Vec<Entry> {
-        let count = match self.random.weighted(&[24, 34, 20, 14, 4, 3, 1]) {
+        let count = match self.random.weighted(&[480, 680, 400, 280, 80, 60, 19, 1]) {
             0 => 0,
             1 => 1,
             2 => 2,
             3 => self.random.from(3, 6),
             4 => self.random.from(7, 30),
             5 => self.random.from(31, 33),
-            _ => 40,
+            6 => 40,
+            _ => self.random.pick(&[999, 1000, 1000, 1000, 1001, 1500]),
         };
         let mut entries: Vec<Entry> = Vec::new();
         let fresh = self

@@ -1,4 +1,4 @@
-use mathlib.Core.Path.{_≡_, refl, sym, ap, _∙_}
+use mathlib.Core.Path.{refl, ap, _∙_}
 use mathlib.Core.List.{[], _∷_, _++_}
 use native.Mathlib.Omega.{arith}
 use lib.ListN.{length, length-append}
@@ -8,12 +8,13 @@ use Rattle.steps.specs.Steps.{decimalIn}
 use Rattle.steps.proofs.LineBytes.{decimal-none, decimal-digit, decimal-more}
 use borrow.Author.Needs.{needs}
 use Prim.Native.Nat.{ℕ, _<_, _+_, _-_, _/_, _%_}
-use borrow.Fn.Kinds.{In}
+use borrow.Fn.Kinds.{In, Out}
 use borrow.Fn.PlainCycle.{Measures, is, falls, and}
 use Rattle.steps.proofs.write_decimal.Reads as write-decimal
 use Rattle.steps.proofs.write_decimal.Kinds as write-decimal-kinds
 use Rattle.steps.proofs.+write_decimal.Lts-write_decimal as write-decimal-lts
 use Rattle.steps.proofs.digit.Reads as digit-reads
+use Rattle.steps.proofs.digit.Kinds as digit-kinds
 use Rattle.steps.proofs.+write_decimal.{statement}
 use Rattle.steps.proofs.+write_decimal.Tie.{close}
 
@@ -32,107 +33,51 @@ write-decimal-below t =
     (falls 1 write-decimal-kinds.ps _<_ μ-write-decimal t)
     write-decimal.Pre
 
-write-decimal-returns : (t : ℕ) → write-decimal-lts.Need-returns (
-  digit-reads.Asked,
-  digit-reads.Learnt,
-  write-decimal-below t,
-  write-decimal.Post,
-) (write-decimal-at t) write-decimal.Post
+-- what is asked and learnt of the two callees: `digit`, and itself with fewer places
+abbrev called : ℕ → In 0 digit-kinds.ps × Out 0 digit-kinds.ps digit-kinds.r × In 1 write-decimal-kinds.ps × Out 1 write-decimal-kinds.ps write-decimal-kinds.r
+called t = (digit-reads.Asked, digit-reads.Learnt, write-decimal-below t, write-decimal.Post)
+
+write-decimal-returns : (t : ℕ) → write-decimal-lts.Need-returns (called t) (write-decimal-at t) write-decimal.Post
 write-decimal-returns t c =
     let a = c .before .before .args in
     let e = decimal-none (a .places) (a .n) (c .if1 .taken) in
     (rw e refl, search needs, rw e refl)
 
-write-decimal-digit-requires : (t : ℕ) → write-decimal-lts.Need-digit-requires (
-  digit-reads.Asked,
-  digit-reads.Learnt,
-  write-decimal-below t,
-  write-decimal.Post,
-) (write-decimal-at t) write-decimal.Post
+write-decimal-digit-requires : (t : ℕ) → write-decimal-lts.Need-digit-requires (called t) (write-decimal-at t) write-decimal.Post
 write-decimal-digit-requires t c κs = search needs
 
-write-decimal-slice-write-out : (t : ℕ) → write-decimal-lts.Need-slice-write-out (
-  digit-reads.Asked,
-  digit-reads.Learnt,
-  write-decimal-below t,
-  write-decimal.Post,
-) (write-decimal-at t) write-decimal.Post
+write-decimal-slice-write-out : (t : ℕ) → write-decimal-lts.Need-slice-write-out (called t) (write-decimal-at t) write-decimal.Post
 write-decimal-slice-write-out t c = search needs
 
-write-decimal-same-length : (t : ℕ) → write-decimal-lts.Need-same-length (
-  digit-reads.Asked,
-  digit-reads.Learnt,
-  write-decimal-below t,
-  write-decimal.Post,
-) (write-decimal-at t) write-decimal.Post
+write-decimal-same-length : (t : ℕ) → write-decimal-lts.Need-same-length (called t) (write-decimal-at t) write-decimal.Post
 write-decimal-same-length t c = search needs
 
-write-decimal-returns-2 : (t : ℕ) → write-decimal-lts.Need-returns-2 (
-  digit-reads.Asked,
-  digit-reads.Learnt,
-  write-decimal-below t,
-  write-decimal.Post,
-) (write-decimal-at t) write-decimal.Post
+write-decimal-returns-2 : (t : ℕ) → write-decimal-lts.Need-returns-2 (called t) (write-decimal-at t) write-decimal.Post
 write-decimal-returns-2 t c =
     let a = c .before .before .before .before .args in
     let e = decimal-digit (a .places) (a .n) (c .before .before .if1 .left) (c .before .if2 .taken) in
     let h : 0 < length (a .out .now) = search needs in
     (rw e refl, search needs, rw e (over-one [] (a .out .now) (c .digit .result) refl refl h ∙ ap (λ (x : ℕ). over (x ∷ []) (a .out .now)) (c .digit .ensures)))
 
-write-decimal-sub-write-decimal : (t : ℕ) → write-decimal-lts.Need-sub-write-decimal (
-  digit-reads.Asked,
-  digit-reads.Learnt,
-  write-decimal-below t,
-  write-decimal.Post,
-) (write-decimal-at t) write-decimal.Post
+write-decimal-sub-write-decimal : (t : ℕ) → write-decimal-lts.Need-sub-write-decimal (called t) (write-decimal-at t) write-decimal.Post
 write-decimal-sub-write-decimal t c = search needs
 
-write-decimal-write-decimal-requires : (t : ℕ) → write-decimal-lts.Need-write-decimal-requires (
-  digit-reads.Asked,
-  digit-reads.Learnt,
-  write-decimal-below t,
-  write-decimal.Post,
-) (write-decimal-at t) write-decimal.Post
+write-decimal-write-decimal-requires : (t : ℕ) → write-decimal-lts.Need-write-decimal-requires (called t) (write-decimal-at t) write-decimal.Post
 write-decimal-write-decimal-requires t c κs = search needs
 
-write-decimal-digit-requires-2 : (t : ℕ) → write-decimal-lts.Need-digit-requires-2 (
-  digit-reads.Asked,
-  digit-reads.Learnt,
-  write-decimal-below t,
-  write-decimal.Post,
-) (write-decimal-at t) write-decimal.Post
+write-decimal-digit-requires-2 : (t : ℕ) → write-decimal-lts.Need-digit-requires-2 (called t) (write-decimal-at t) write-decimal.Post
 write-decimal-digit-requires-2 t c κs = search needs
 
-write-decimal-slice-write-out-2 : (t : ℕ) → write-decimal-lts.Need-slice-write-out-2 (
-  digit-reads.Asked,
-  digit-reads.Learnt,
-  write-decimal-below t,
-  write-decimal.Post,
-) (write-decimal-at t) write-decimal.Post
+write-decimal-slice-write-out-2 : (t : ℕ) → write-decimal-lts.Need-slice-write-out-2 (called t) (write-decimal-at t) write-decimal.Post
 write-decimal-slice-write-out-2 t c = search needs
 
-write-decimal-add-result : (t : ℕ) → write-decimal-lts.Need-add-result (
-  digit-reads.Asked,
-  digit-reads.Learnt,
-  write-decimal-below t,
-  write-decimal.Post,
-) (write-decimal-at t) write-decimal.Post
+write-decimal-add-result : (t : ℕ) → write-decimal-lts.Need-add-result (called t) (write-decimal-at t) write-decimal.Post
 write-decimal-add-result t c = search needs
 
-write-decimal-same-length-2 : (t : ℕ) → write-decimal-lts.Need-same-length-2 (
-  digit-reads.Asked,
-  digit-reads.Learnt,
-  write-decimal-below t,
-  write-decimal.Post,
-) (write-decimal-at t) write-decimal.Post
+write-decimal-same-length-2 : (t : ℕ) → write-decimal-lts.Need-same-length-2 (called t) (write-decimal-at t) write-decimal.Post
 write-decimal-same-length-2 t c = search needs
 
-write-decimal-returns-3 : (t : ℕ) → write-decimal-lts.Need-returns-3 (
-  digit-reads.Asked,
-  digit-reads.Learnt,
-  write-decimal-below t,
-  write-decimal.Post,
-) (write-decimal-at t) write-decimal.Post
+write-decimal-returns-3 : (t : ℕ) → write-decimal-lts.Need-returns-3 (called t) (write-decimal-at t) write-decimal.Post
 write-decimal-returns-3 t c =
     let a = c .before .before .before .before .before .before .before .before .args in
     let w = c .before .before .before .write-decimal in
@@ -145,12 +90,7 @@ write-decimal-returns-3 t c =
     )
 
 pub +write-decimal-spec : {M : Type 1} → statement M
-+write-decimal-spec = close μ-write-decimal λ t. write-decimal-lts.spec (
-  digit-reads.Asked,
-  digit-reads.Learnt,
-  write-decimal-below t,
-  write-decimal.Post,
-)
++write-decimal-spec = close μ-write-decimal λ t. write-decimal-lts.spec (called t)
     (write-decimal-at t)
     write-decimal.Post
     (write-decimal-returns t)

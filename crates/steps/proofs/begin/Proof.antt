@@ -1,7 +1,6 @@
-use mathlib.Core.Path.{_≡_, ap}
+use mathlib.Core.Path.{ap}
 use mathlib.Core.List.{[]}
-use Rattle.shaper.specs.Shaper.{View, Reply}
-use Rattle.steps.specs.Steps.{ProgressView}
+use Rattle.shaper.specs.Shaper.{Reply}
 use borrow.Author.Needs.{needs}
 use Rattle.steps.proofs.begin.Statement.{statement}
 use Rattle.steps.proofs.begin.Tie as tie

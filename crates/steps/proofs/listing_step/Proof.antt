@@ -1,4 +1,3 @@
-use mathlib.Core.Path.{_≡_, refl}
 use Rattle.steps.specs.Steps.{listingRow}
 use Rattle.steps.proofs.StepLaws.{step-undrawn, step-drawn}
 use borrow.Author.Needs.{needs}
@@ -18,7 +17,10 @@ same-length : tie.Need-same-length
 same-length c = search needs
 
 returns : tie.Need-returns
-returns c = step-undrawn listingRow (c .before .before .before .before .before .before .before .before .args .progress) (c .before .before .before .before .before .before .before .before .args .left .now) (c .before .before .before .before .before .before .before .before .args .out .now) (c .before .before .before .before .before .next-record .result) (c .before .before .before .before .before .next-record .ensures) _ _ (c .before .before .before .before .match .keys2) (c .before .before .without-record .ensures)
+returns c =
+    let c5 = c .before .before .before .before .before in
+    let c8 = c5 .before .before .before in
+    step-undrawn listingRow (c8 .args .progress) (c8 .args .left .now) (c8 .args .out .now) (c5 .next-record .result) (c5 .next-record .ensures) _ _ (c .before .before .before .before .match .keys2) (c .before .before .without-record .ensures)
 
 listing-row-requires : tie.Need-listing-row-requires
 listing-row-requires c κs = search needs
@@ -27,7 +29,10 @@ same-length-2 : tie.Need-same-length-2
 same-length-2 c = search needs
 
 returns-2 : tie.Need-returns-2
-returns-2 c = step-drawn listingRow (c .before .before .before .before .before .before .before .before .before .before .args .progress) (c .before .before .before .before .before .before .before .before .before .before .args .left .now) (c .before .before .before .before .before .before .before .before .before .before .args .out .now) (c .before .before .before .before .before .before .before .next-record .result) (c .before .before .before .before .before .before .before .next-record .ensures) _ _ (c .before .before .before .before .before .enum-told .given .1) (c .before .before .listing-row .ensures)
+returns-2 c =
+    let c7 = c .before .before .before .before .before .before .before in
+    let c10 = c7 .before .before .before in
+    step-drawn listingRow (c10 .args .progress) (c10 .args .left .now) (c10 .args .out .now) (c7 .next-record .result) (c7 .next-record .ensures) _ _ (c .before .before .before .before .before .enum-told .given .1) (c .before .before .listing-row .ensures)
 
 pub listing-step-spec : {M : Type 1} → statement M
 listing-step-spec =

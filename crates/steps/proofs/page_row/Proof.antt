@@ -1,4 +1,3 @@
-use mathlib.Core.Path.{_≡_, refl}
 use native.Mathlib.Omega.{arith}
 use Rattle.steps.proofs.StepLaws.{page-stops, page-goes, message-long, front-is}
 use borrow.Author.Needs.{needs}
@@ -24,7 +23,10 @@ same-length : tie.Need-same-length
 same-length c = search needs
 
 returns : tie.Need-returns
-returns c = page-stops (c .before .before .before .before .before .before .before .before .before .before .before .before .before .before .before .before .before .args .progress) (c .before .before .before .before .before .before .before .before .before .before .before .before .before .before .before .before .before .args .decoded) (c .before .before .before .before .before .before .before .before .before .before .before .before .before .before .before .before .before .args .out .now) (c .before .before .before .before .before .before .before .before .before .before .before .before .before .before .before .before .before .pre .1) _ (front-is (c .before .before .before .before .before .before .before .before .before .before .before .before .before .before .before .before .before .args .decoded .«message_length») (c .before .before .before .before .before .before .before .before .before .before .before .before .before .before .before .before .before .args .decoded .message)) (c .before .before .before .before .before .before .before .before .write-next-text .result) _ (c .before .before .before .before .before .before .before .before .write-next-text .ensures) (c .before .before .before .before .if1 .taken) _ _ (c .before .before .refused .ensures)
+returns c =
+    let c8 = c .before .before .before .before .before .before .before .before in
+    let c17 = c8 .before .before .before .before .before .before .before .before .before in
+    page-stops (c17 .args .progress) (c17 .args .decoded) (c17 .args .out .now) (c17 .pre .1) _ (front-is (c17 .args .decoded .«message_length») (c17 .args .decoded .message)) (c8 .write-next-text .result) _ (c8 .write-next-text .ensures) (c .before .before .before .before .if1 .taken) _ _ (c .before .before .refused .ensures)
 
 next-requires : tie.Need-next-requires
 next-requires c κs = search needs
@@ -33,7 +35,10 @@ same-length-2 : tie.Need-same-length-2
 same-length-2 c = search needs
 
 returns-2 : tie.Need-returns-2
-returns-2 c = page-goes (c .before .before .before .before .before .before .before .before .before .before .before .before .before .before .before .before .args .progress) (c .before .before .before .before .before .before .before .before .before .before .before .before .before .before .before .before .args .decoded) (c .before .before .before .before .before .before .before .before .before .before .before .before .before .before .before .before .args .out .now) (c .before .before .before .before .before .before .before .before .before .before .before .before .before .before .before .before .pre .1) _ (front-is (c .before .before .before .before .before .before .before .before .before .before .before .before .before .before .before .before .args .decoded .«message_length») (c .before .before .before .before .before .before .before .before .before .before .before .before .before .before .before .before .args .decoded .message)) (c .before .before .before .before .before .before .before .write-next-text .result) _ (c .before .before .before .before .before .before .before .write-next-text .ensures) _ (c .next .ensures) (c .before .before .before .if1 .left)
+returns-2 c =
+    let c7 = c .before .before .before .before .before .before .before in
+    let c16 = c7 .before .before .before .before .before .before .before .before .before in
+    page-goes (c16 .args .progress) (c16 .args .decoded) (c16 .args .out .now) (c16 .pre .1) _ (front-is (c16 .args .decoded .«message_length») (c16 .args .decoded .message)) (c7 .write-next-text .result) _ (c7 .write-next-text .ensures) _ (c .next .ensures) (c .before .before .before .if1 .left)
 
 pub page-row-spec : {M : Type 1} → statement M
 page-row-spec =

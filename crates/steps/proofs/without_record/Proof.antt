@@ -1,4 +1,3 @@
-use mathlib.Core.Path.{_≡_, refl, sym}
 use Rattle.steps.proofs.StepLaws.{no-bytes}
 use borrow.Author.Needs.{needs}
 use Rattle.steps.proofs.without_record.Statement.{statement}

@@ -1,6 +1,5 @@
-use mathlib.Core.Path.{_≡_, refl, ap, _∙_}
 use native.Mathlib.Omega.{arith}
-use lib.ListN.{length, length-append}
+use lib.ListN.{length-append}
 use Rattle.glyphs.proofs.OverLaws.{part-written}
 use Rattle.steps.specs.Steps.{decimalIn, places}
 use borrow.Author.Needs.{needs}

@@ -1,6 +1,5 @@
-use mathlib.Core.Path.{_≡_, refl, ap, sym, _∙_}
+use mathlib.Core.Path.{refl}
 use native.Mathlib.Omega.{arith}
-use lib.ListN.{length}
 use Rattle.steps.proofs.LineBytes.{no-line, line-length, line-written, line-same}
 use borrow.Author.Needs.{needs}
 use Rattle.steps.proofs.write_refused.Statement.{statement}

@@ -35,8 +35,11 @@ add-t11 : tie.Need-add-t11
 add-t11 c = search needs
 
 returns-2 : tie.Need-returns-2
-returns-2 c = let a = c .before .before .before .before .before .before .before .before .before .before .args in
-    width-done (a .shaper) (a .node) (a .entries) (sym (c .before .before .before .before .before .before .before .before .before .are-too-many .ensures) ∙ c .before .before .before .before .before .before .before .before .if1 .left) (slots-long (a .shaper .slots) (c .before .before .before .before .before .before .before .before .before .before .good .0 .1 .1 .0 .1 .0 .1)) _ _ (c .before .before .before .before .room-for .result) _ _ _ (c .before .before .before .before .before .before .live-count .ensures) (c .before .before .before .before .before .empty-columns .ensures .0) (c .before .before .before .before .room-for .ensures .0) (c .before .before .before .unallocated-parents .ensures .0) (c .before .before .saturating-sub .ensures) (c .before .saturating-sub2 .ensures)
+returns-2 c =
+    let c4 = c .before .before .before .before in
+    let c10 = c4 .before .before .before .before .before .before in
+    let a = c10 .args in
+    width-done (a .shaper) (a .node) (a .entries) (sym (c4 .before .before .before .before .before .are-too-many .ensures) ∙ c4 .before .before .before .before .if1 .left) (slots-long (a .shaper .slots) (c10 .good .0 .1 .1 .0 .1 .0 .1)) _ _ (c4 .room-for .result) _ _ _ (c4 .before .before .live-count .ensures) (c4 .before .empty-columns .ensures .0) (c4 .room-for .ensures .0) (c .before .before .before .unallocated-parents .ensures .0) (c .before .before .saturating-sub .ensures) (c .before .saturating-sub2 .ensures)
 
 pub width-spec : {M : Type 1} → statement M
 width-spec =

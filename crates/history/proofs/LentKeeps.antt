@@ -1,0 +1,74 @@
+-- Demand 3 of the lent calls: what their contracts say of each is what our machine gives, so that the theorem speaks of what they leave.
+use mathlib.Core.Path.{_≡_, refl, sym, _∙_, ap, ap₂}
+use mathlib.Core.Bool.{Bool}
+use mathlib.Core.List.{List, [], _∷_, map}
+use lib.Dec.{ltb}
+use lib.ListN.{length, length-map}
+use Rattle.render.specs.declared.render.Entry.{Entry}
+use Rattle.render.specs.declared.types.Options.{Options}
+use Rattle.render.specs.Entries.{entryLimit}
+use Rattle.shaper.specs.declared.Shaper.{Shaper}
+use Rattle.shaper.specs.declared.Answer.{Answer}
+use Rattle.shaper.specs.Shaper.{View, Reply, viewOf, Fresh}
+use Rattle.row_shape.specs.Row.{RowReply, row}
+use Rattle.output.specs.Output.{textViewOf}
+use Rattle.text.specs.Text.{TextReply, text}
+use Rattle.glyphs.specs.declared.Renderer.{Renderer}
+use Rattle.lineage.specs.Promises.{ancestors, tooLong}
+use Rattle.history.specs.Account.{Waiting, nobody}
+use Rattle.history.specs.Demand3.{Stroke, Kept, Keeps, KeepsEveryLine}
+use Rattle.history.specs.Ours.{isRefusal, refuses, after, callOf, shapeOf, ours}
+use Rattle.history.specs.LentCalls.{LentCall, ReserveRan, RowRan, TextRan, exit, number, Met, Ran, itemOf, lentShape, lent, leaves, verdicts}
+use Rattle.history.proofs.Keeps.{keeps-every-line}
+
+-- a lent list is too long exactly if the list of its entries is
+long-same : (l : List Entry) → tooLong l ≡ ltb entryLimit (length (ancestors l))
+long-same l = ap (ltb entryLimit) (sym (length-map l (λ (e : Entry). e .ancestor)))
+
+-- what a call leaves and gives, and what our machine gives for it
+pub record Same (s : Shaper) (k : LentCall) : Type 0 where
+  pub view : viewOf (exit k) ≡ after (viewOf s) (itemOf k)
+  pub verdict : isRefusal (number k) ≡ refuses (viewOf s) (itemOf k)
+  pub shape : lentShape s k ≡ shapeOf (viewOf s) (callOf (itemOf k))
+
+same : (s : Shaper) (k : LentCall) → Met s k → Same s k
+same s (ReserveRan n s′ r) m = record { view = ap (λ (a : Reply). a .view) (m .reply); verdict = ap (λ (a : Reply). isRefusal (a .refusal)) (m .reply); shape = refl }
+same s (RowRan n l s′ r) m =
+    let e = m .reply ∙ ap (λ (b : Bool). row (viewOf s) n b (ancestors l)) (long-same l) in
+    record { view = ap (λ (a : RowReply). a .view) e; verdict = ap (λ (a : RowReply). isRefusal (a .refusal)) e; shape = ap (λ (a : RowReply). a .shape) e }
+same s (TextRan a s′) m =
+    let e = m .reply ∙ ap (λ (b : Bool). text (viewOf s) (textViewOf (a .state)) (a .renderer) (a .node) b (ancestors (a .entries)) (a .mark) (a .message) (a .output)) (long-same (a .entries)) in
+    record { view = ap (λ (a : TextReply). a .view) e; verdict = ap (λ (a : TextReply). isRefusal (a .refusal)) e; shape = refl }
+
+-- what the whole list leaves, and which calls were refused, is what our machine gives for it
+pub lent-calls-leave : (q : Renderer) (s : Shaper) (ks : List LentCall) → Ran s ks → viewOf (leaves (lent q) s ks) ≡ leaves (ours q) (viewOf s) (map itemOf ks)
+lent-calls-leave q s [] r = refl
+lent-calls-leave q s (k ∷ ks) r = lent-calls-leave q (exit k) ks (r .1) ∙ ap (λ (v : View). leaves (ours q) v (map itemOf ks)) (same s k (r .0) .view)
+
+pub lent-calls-refuse : (q : Renderer) (s : Shaper) (ks : List LentCall) → Ran s ks → verdicts (lent q) s ks ≡ verdicts (ours q) (viewOf s) (map itemOf ks)
+lent-calls-refuse q s [] r = refl
+lent-calls-refuse q s (k ∷ ks) r =
+    let e = same s k (r .0) in
+    ap₂ _∷_ (e .verdict) (lent-calls-refuse q (exit k) ks (r .1) ∙ ap (λ (v : View). verdicts (ours q) v (map itemOf ks)) (e .view))
+
+-- ---- demand 3
+kept : (q : Renderer) (s : Shaper) (w : Waiting) (f : List Stroke) (k : LentCall) → Same s k → Kept (ours q) (viewOf s) w f (itemOf k) → Kept (lent q) s w f k
+kept q s w f k e K =
+    let c : viewOf (exit k) .columns ≡ after (viewOf s) (itemOf k) .columns = ap (λ (v : View). v .columns) (e .view) in
+    record {
+      waiting = rw (c, e .verdict) (K .waiting);
+      tidy = rw c (K .tidy);
+      moving = rw (c, e .verdict, e .shape) (K .moving);
+      drawn = rw (c, e .verdict, e .shape) (K .drawn);
+    }
+
+keeps : (q : Renderer) (s : Shaper) (w : Waiting) (f : List Stroke) (ks : List LentCall) → Ran s ks → Keeps (ours q) (viewOf s) w f (map itemOf ks) → Keeps (lent q) s w f ks
+keeps q s w f [] r K = tt
+keeps q s w f (k ∷ ks) r K =
+    let e = same s k (r .0) in
+    (kept q s w f k e (K .0), keeps q (exit k) _ _ ks (r .1) (rw (e .view, e .verdict, e .shape) (K .1)))
+
+-- whatever list of lent calls has run on a new shaper, each as its contract says, a drawn history keeps every line
+pub lent-calls-keep : (q : Renderer) (o : Options) (a : Answer) → Fresh o a → (ks : List LentCall) → Ran (a .shaper) ks → KeepsEveryLine (lent q) (a .shaper) ks
+lent-calls-keep q o a n ks r =
+    keeps q (a .shaper) nobody [] ks r (rw (ap (λ (x : Reply). x .view) (n .reply)) (keeps-every-line q o (map itemOf ks)))

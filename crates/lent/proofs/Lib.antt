@@ -1,0 +1,2 @@
+pub mod LocalLaws
+pub mod FrontLaws

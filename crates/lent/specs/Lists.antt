@@ -1,0 +1,6 @@
+-- The lists that the callers take.
+use Prim.Native.Nat.{ℕ}
+
+-- the most entries of a list
+abbrev pub listLimit : ℕ
+listLimit = 1000
