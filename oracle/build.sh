@@ -1,8 +1,8 @@
 #!/usr/bin/env bash
-# Builds the Rust side under target/, or where ORACLE_TARGET says, and prints where the program lies.
+# Builds the Rust side under target/ and prints where the program lies.
 set -euo pipefail
 here=$(cd "$(dirname "${BASH_SOURCE[0]}")" && pwd)
-target=${ORACLE_TARGET:-$(dirname "$here")/target/oracle}
+target=$(dirname "$here")/target/oracle
 if [ -n "${RENDERDAG_SRC:-}" ]; then
     RENDERDAG_SRC=$(realpath "$RENDERDAG_SRC")
     export RENDERDAG_SRC

@@ -9,19 +9,22 @@ use std::path::Path;
 use std::path::PathBuf;
 use std::process::exit;
 
-/// Where the crate is, seen from this package, unless `RENDERDAG_SRC` says otherwise.
+/// Where the crate is, seen from a package that is built, unless `RENDERDAG_SRC` says otherwise.
 const DEFAULT_PLACE: &str = "../../shared/docs/src";
+/// Where the list of checksums is, and this program, seen from a package that is built.
+const CHECKSUMS: &str = "../oracle/checksums";
+const PROGRAM: &str = "../oracle/build";
 
 /// Checks and links every file that `checksums` names.
-fn main() {
+pub fn main() {
     println!("cargo:rerun-if-env-changed=RENDERDAG_SRC");
-    println!("cargo:rerun-if-changed=checksums");
-    println!("cargo:rerun-if-changed=build");
+    println!("cargo:rerun-if-changed={CHECKSUMS}");
+    println!("cargo:rerun-if-changed={PROGRAM}");
     let package = PathBuf::from(variable("CARGO_MANIFEST_DIR"));
     let links = PathBuf::from(variable("OUT_DIR")).join("renderdag");
     let place = place(&package);
     make_empty(&links);
-    for (sum, name) in checksums(&package.join("checksums")) {
+    for (sum, name) in checksums(&package.join(CHECKSUMS)) {
         let file = place.join(&name);
         println!("cargo:rerun-if-changed={}", file.display());
         check(&file, &sum);

@@ -4,15 +4,12 @@ use std::io;
 use std::io::Write;
 
 use crate::answers;
-use crate::calls;
 use crate::machine::Counts;
 use crate::machine::Machine;
 use crate::stream::encode;
 use crate::stream::Command;
 use crate::stream::Commands;
 use crate::stream::Letters;
-use crate::stream::Repeat;
-use crate::stream::Text;
 
 /// How many bytes are kept before they are written.
 const KEPT: usize = 1 << 20;
@@ -29,33 +26,6 @@ pub fn answer_to(stream: &[u8], built: &Letters, out: &mut impl Write) -> io::Re
         }
     }
     out.write_all(&text)
-}
-
-/// Answers a stream in which only text calls of one renderer are repeated: these are made on that renderer alone (`calls::texts`).
-pub fn answer_bare(stream: &[u8], built: &Letters, out: &mut impl Write) -> io::Result<()> {
-    let mut machine = Machine::new(built);
-    let mut text = Vec::new();
-    for mut command in Commands::new(stream) {
-        if let Command::Repeat(repeat) = &mut command {
-            let texts = texts_of(repeat).ok_or(io::Error::other("not only text calls"))?;
-            (machine.shaper, machine.state) =
-                calls::texts(&machine.shaper, &machine.state, &texts, repeat.times);
-            repeat.commands.clear();
-        }
-        answers::answer(&mut machine, &command, &mut text);
-    }
-    out.write_all(&text)
-}
-
-/// The text calls of a repeat, if it has nothing else.
-fn texts_of(repeat: &Repeat) -> Option<Vec<&Text>> {
-    let calls = repeat.commands.iter();
-    calls
-        .map(|command| match command {
-            Command::Text(text) => Some(text),
-            _ => None,
-        })
-        .collect()
 }
 
 /// The answers to a stream, and the counts of its calls.

@@ -1,7 +1,5 @@
 //! The calls: the crate's own functions behind document 01's refusals. Each takes the state before and gives the state after, so that a refusal changes nothing.
 
-use std::hint::black_box;
-
 use crate::codes;
 use crate::column::ColumnsExt;
 use crate::output::OutputRendererState;
@@ -177,36 +175,6 @@ pub fn text(shaper: &Shaper, state: &TextState, text: &Text) -> Result<Written, 
         state: TextState::from_crate(stage.into_state()),
         text: out,
     })
-}
-
-/// Makes text calls so many times over on one renderer of the crate's, that of the first call, and gives the states after them: the
-/// renderer keeps its states, nothing is refused and nothing copied. Every call writes to the same text, emptied before.
-pub fn texts(
-    shaper: &Shaper,
-    state: &TextState,
-    texts: &[&Text],
-    times: u32,
-) -> (Shaper, TextState) {
-    let code = texts.first().map_or(0, |text| text.drawing.renderer);
-    let mut renderer = text_renderer(shaper, state, code);
-    let given: Vec<_> = texts
-        .iter()
-        .map(|text| {
-            let message = String::from_utf8_lossy(&text.message);
-            (&text.row, glyph(text.drawing.mark), message)
-        })
-        .collect();
-    let mut out = String::new();
-    for _ in 0..times {
-        for (row, mark, message) in &given {
-            out.clear();
-            let parents = codes::ancestors(&row.entries);
-            renderer.write_next_text(&mut out, row.node, parents, mark, message);
-            black_box(&out);
-        }
-    }
-    let (shaper, stage) = renderer.into_parts();
-    (shaper, TextState::from_crate(stage.into_state()))
 }
 
 /// The crate's text renderer with this code, in these states.

@@ -51,7 +51,6 @@ use stream::Letters;
 
 /// How the program is called.
 const USAGE: &str = "usage: oracle answer [--built LETTERS]
-       oracle answer-bare [--built LETTERS]
        oracle generate N SEED [--built LETTERS]
        oracle compare N SEED REPLAY [--built LETTERS] [--threads N] [--seconds S] [--timeout S]
        oracle cells [--part K]
@@ -91,7 +90,6 @@ fn main() -> ExitCode {
 fn run(arguments: &Arguments) -> Result<bool, String> {
     let done = match arguments.plain(0)?.as_str() {
         "answer" => answer(&arguments.letters()),
-        "answer-bare" => answer_bare(&arguments.letters()),
         "generate" => generate(
             arguments.number(1)?,
             arguments.number(2)?,
@@ -115,11 +113,6 @@ fn run(arguments: &Arguments) -> Result<bool, String> {
 /// Answers the stream on standard input.
 fn answer(built: &Letters) -> io::Result<()> {
     answering::answer_to(&input()?, built, &mut io::stdout().lock())
-}
-
-/// Answers the stream on standard input, its repeated text calls on the crate's renderer alone.
-fn answer_bare(built: &Letters) -> io::Result<()> {
-    answering::answer_bare(&input()?, built, &mut io::stdout().lock())
 }
 
 /// Prints the stream of so many lists.

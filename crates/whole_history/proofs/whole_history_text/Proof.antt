@@ -1,0 +1,120 @@
+use Prim.Native.Nat.{_*_, _≤_, _-_}
+use lib.ListN.{length}
+use mathlib.Core.Path.{_≡_}
+use borrow.Author.Needs.{needs}
+use Rattle.record.specs.Record.{recordLength}
+use Rattle.whole_history.proofs.whole_history_text.Statement.{statement}
+use Rattle.whole_history.proofs.whole_history_text.Tie as tie
+
+abbrev Inv-loop : tie.InvT-loop
+Inv-loop records message renderer kept out₀ drawing shaper₀ state₀ from₀ rows₀ out shaper state from rows = (recordLength * rows ≤ length records) × (from ≤ length out) × (length out ≡ length out₀)
+
+abbrev μ-loop : tie.MeasureT-loop
+μ-loop records message renderer kept out₀ drawing shaper₀ state₀ from₀ rows₀ out shaper state from rows = length records - recordLength * rows
+
+renderer-of-requires : tie.Need-renderer-of-requires Inv-loop μ-loop
+renderer-of-requires c κs = search needs
+
+begin-requires : tie.Need-begin-requires Inv-loop μ-loop
+begin-requires c κs = search needs
+
+loop-holds : tie.Need-loop-holds Inv-loop μ-loop
+loop-holds c = search needs
+
+mul-loop : tie.Need-mul-loop Inv-loop μ-loop
+mul-loop c = search needs
+
+sub-loop : tie.Need-sub-loop Inv-loop μ-loop
+sub-loop c = search needs
+
+mul-at : tie.Need-mul-at Inv-loop μ-loop
+mul-at c = search needs
+
+add-drawn : tie.Need-add-drawn Inv-loop μ-loop
+add-drawn c = search needs
+
+add-bytes : tie.Need-add-bytes Inv-loop μ-loop
+add-bytes c = search needs
+
+sub-bytes : tie.Need-sub-bytes Inv-loop μ-loop
+sub-bytes c = search needs
+
+part-bytes-start : tie.Need-part-bytes-start Inv-loop μ-loop
+part-bytes-start c = search needs
+
+part-bytes-end : tie.Need-part-bytes-end Inv-loop μ-loop
+part-bytes-end c = search needs
+
+id-at-requires : tie.Need-id-at-requires Inv-loop μ-loop
+id-at-requires c κs = search needs
+
+entries-of-requires : tie.Need-entries-of-requires Inv-loop μ-loop
+entries-of-requires c κs = search needs
+
+shared-slice-read-write-next-text : tie.Need-shared-slice-read-write-next-text Inv-loop μ-loop
+shared-slice-read-write-next-text c = search needs
+
+sub-write-next-text : tie.Need-sub-write-next-text Inv-loop μ-loop
+sub-write-next-text c = search needs
+
+part-write-next-text-start : tie.Need-part-write-next-text-start Inv-loop μ-loop
+part-write-next-text-start c = search needs
+
+part-write-next-text-end : tie.Need-part-write-next-text-end Inv-loop μ-loop
+part-write-next-text-end c = search needs
+
+write-next-text-requires : tie.Need-write-next-text-requires Inv-loop μ-loop
+write-next-text-requires c κs = search needs
+
+same-length : tie.Need-same-length Inv-loop μ-loop
+same-length c = search needs
+
+returns : tie.Need-returns Inv-loop μ-loop
+returns c = search needs
+
+next-place-requires : tie.Need-next-place-requires Inv-loop μ-loop
+next-place-requires c κs = search needs
+
+loop-less : tie.Need-loop-less Inv-loop μ-loop
+loop-less c = search needs
+
+loop-again : tie.Need-loop-again Inv-loop μ-loop
+loop-again c = search needs
+
+same-length-2 : tie.Need-same-length-2 Inv-loop μ-loop
+same-length-2 c = search needs
+
+returns-2 : tie.Need-returns-2 Inv-loop μ-loop
+returns-2 c = search needs
+
+pub whole-history-text-spec : {M : Type 1} → statement M
+whole-history-text-spec =
+    tie.close
+    (tie.spec
+    Inv-loop
+    μ-loop
+    renderer-of-requires
+    begin-requires
+    loop-holds
+    mul-loop
+    sub-loop
+    mul-at
+    add-drawn
+    add-bytes
+    sub-bytes
+    part-bytes-start
+    part-bytes-end
+    id-at-requires
+    entries-of-requires
+    shared-slice-read-write-next-text
+    sub-write-next-text
+    part-write-next-text-start
+    part-write-next-text-end
+    write-next-text-requires
+    same-length
+    returns
+    next-place-requires
+    loop-less
+    loop-again
+    same-length-2
+    returns-2)

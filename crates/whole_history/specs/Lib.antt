@@ -1,0 +1,2 @@
+-- What the contracts of the whole histories name.
+pub mod Shapes
