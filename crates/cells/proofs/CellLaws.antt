@@ -1,17 +1,16 @@
 -- Laws of the definitions in specs/Cells.antt, one for each return of the functions.
 use Prim.Native.Nat.{min, ℕ, zero, suc, _+_, _-_, _<_}
 use mathlib.Core.Path.{_≡_, refl, ap, _∙_, sym}
-use mathlib.Core.Bool.{Bool}
+use mathlib.Core.Bool.{Bool, true, false, cond, not, _&&_, _||_}
 use mathlib.Core.List.{List, [], _∷_, _++_, append-assoc}
 use native.Mathlib.Numerals.{add-one}
 use native.Mathlib.Omega.{arith}
 use lib.ListN.{length, getD, set, replicate}
 use lib.Seq.{set-at}
 use Rattle.column.specs.declared.Column.{Column}
-use Rattle.column.specs.declared.Columns.{Columns}
-use Rattle.column.specs.declared.Slot.{Slot}
-use Rattle.column.specs.Columns.{columnLimit, at, live, emptySlot, columnAt}
-use Rattle.column.proofs.Positions.{at-live}
+use Rattle.column.specs.Columns.{columnLimit, isParent, isAncestor, at, live, columnAt}
+use Rattle.column.specs.Codes.{columnIn, slotIn, slotsIn}
+use Rattle.column.proofs.CodeLaws.{at-code}
 use Rattle.render.specs.declared.render.LinkLine.{LinkLine}
 use Rattle.render.specs.declared.render.Marks.{Marks}
 use Rattle.render.specs.declared.render.NodeLine.{NodeLine}
@@ -19,15 +18,16 @@ use Rattle.render.specs.declared.render.PadLine.{PadLine}
 use Rattle.render.specs.declared.types.Cell.{Cell}
 use Rattle.render.specs.Lines.{blankCell}
 use Rattle.links.specs.declared.Met.{Met}
+use Rattle.links.specs.declared.Met.the-variants.{Nobody, By}
 use Rattle.links.specs.declared.AncestorColumnBounds.{AncestorColumnBounds}
-use Rattle.links.specs.declared.ParentColumn.{ParentColumn}
 use Rattle.links.specs.declared.Swap.{Swap}
-use Rattle.placing.specs.declared.Settled.{Settled}
 use Rattle.links.specs.Links.{isMet, boundsOf, linked, isAt, met}
-use Rattle.links.specs.Inner.{fromNode, mets, withUprights}
-use Rattle.placing.specs.Inner.{columnsOf, metAt}
+use Rattle.links.specs.Inner.{metIn, parentsIn, fromNode, passing, mets, withUprights}
+use Rattle.links.proofs.LinkLaws.{passing-is, getD-met}
+use Rattle.placing.specs.Inner.{Columns, columnsOf, metAt, Settled}
 use Rattle.cells.specs.Inner.{cellsIn, linesOf, nodeCell, linkCell}
-use Rattle.cells.specs.Cells.{padOf, cellOf, cellsFrom}
+use Rattle.cells.specs.Cells.{besideNode, padOf, cellOf, cellsFrom}
+use lib.Dec.{eqb}
 use Rattle.render.specs.Entries.{isAnonymous}
 
 -- ---- a cell
@@ -38,6 +38,15 @@ pub cell-done : (need : Bool) (b : AncestorColumnBounds) (w : Swap) (i : ℕ) (m
     → record { node = node; link = link; «link_from_node» = link-own; term = term; ancestry = pad; parent = parent } ≡ cellOf need b w i m old new
 cell-done need b w i m old new own all gone node link link-own pad term parent e1 e2 e3 e4 e5 e6 e7 e8 e9 =
     rw (e4, e5, e6, e7, e8, e9, e3, e2, e1)
+
+-- a cell in which nothing of the row ends
+pub passed-done : (need : Bool) (b : AncestorColumnBounds) (w : Swap) (i : ℕ) (old new : Column) (own all : Marks) (node : NodeLine) (link link-own : LinkLine) (pad : PadLine)
+    → eqb i (b .target) ≡ false → isAt (w .«given_up») i ≡ false → own ≡ passing b w i → all ≡ withUprights false old own → node ≡ besideNode old
+    → link ≡ linkCell need all → link-own ≡ linkCell need own → pad ≡ padOf new
+    → record { link = link; «link_from_node» = link-own; node = node; term = false; ancestry = pad; parent = false } ≡ cellOf need b w i Nobody old new
+passed-done need b w i old new own all node link link-own pad h g e1 e2 e3 e4 e5 e6 =
+    cell-done need b w i Nobody old new own all false node link link-own pad false false
+    (e1 ∙ passing-is b w i Nobody h refl g) (sym g) e2 (rw h e3) e4 e5 e6 refl refl
 
 -- ---- an array that is filled from a function of the place
 module _ {A : Type 0} (f : ℕ → A) (blank : A) where
@@ -68,40 +77,66 @@ pub cells-same : {A : Type 0} (f g : ℕ → A) → ((i : ℕ) → f i ≡ g i) 
 cells-same f g h i zero = refl
 cells-same f g h i (suc n) = rw (h i, cells-same f g h (suc i) n)
 
--- what the loop over the cells keeps
-pub record Filling (need : Bool) (b : AncestorColumnBounds) (w : Swap) (width : ℕ) (parents : List ParentColumn) (slots old : List Slot) (count i : ℕ) (out : List Cell) : Type 0 where
-  pub long : length old ≡ columnLimit
-  pub wide : length slots ≡ columnLimit
-  pub filled :
-      out ≡ cellsFrom (λ (k : ℕ). cellOf need b w k (metAt parents k) (at (live count old) k) (at (live width slots) k)) 0 i ++ replicate (columnLimit - i) blankCell
+-- the loop over the cells, in words
+module _ (need : Bool) (b : AncestorColumnBounds) (w : Swap) (parents bare : List ℕ) (count : ℕ) (codes : List ℕ) (width : ℕ) where
+  abbrev pub at-place : ℕ → Cell
+  at-place k = cellOf need b w k (metAt (parentsIn parents) k) (at (live count (slotsIn bare)) k) (at (live width (slotsIn codes)) k)
 
-module _ (need : Bool) (b : AncestorColumnBounds) (w : Swap) (width : ℕ) (parents : List ParentColumn) (slots old : List Slot) (count : ℕ) where
-  abbrev at-place : ℕ → Cell
-  at-place k = cellOf need b w k (metAt parents k) (at (live count old) k) (at (live width slots) k)
+  -- what it keeps: the first i are filled
+  abbrev pub Filling : ℕ → List Cell → Type 0
+  Filling i out = out ≡ cellsFrom at-place 0 i ++ replicate (columnLimit - i) blankCell
 
-  pub filling-start : (out : List Cell) → length old ≡ columnLimit → length slots ≡ columnLimit → out ≡ replicate columnLimit blankCell → Filling need b w width parents slots old count 0 out
-  filling-start out long wide e = record { long = long; wide = wide; filled = cells-start at-place blankCell columnLimit out e }
+  pub filling-next : (i : ℕ) (out : List Cell) (before after : ℕ) (r : Cell) → i < columnLimit → columnIn before ≡ columnAt (slotIn (getD bare i 0)) i count
+      → columnIn after ≡ columnAt (slotIn (getD codes i 0)) i width → r ≡ cellOf need b w i (metIn (getD parents i 0)) (columnIn before) (columnIn after)
+      → Filling i out → Filling (i + 1) (set out i r)
+  filling-next i out before after r h f g q k =
+      cells-next at-place blankCell columnLimit i out r h (q ∙ rw (f, g, ← at-code count bare i, ← at-code width codes i, ← getD-met parents i)) k
 
-  pub filling-next : (i : ℕ) (out : List Cell) (m : Met) (before after : Column) (r : Cell) → i < columnLimit → m ≡ metAt parents i → before ≡ columnAt (getD old i emptySlot) i count → after ≡ columnAt (getD slots i emptySlot) i width
-      → r ≡ cellOf need b w i m before after → Filling need b w width parents slots old count i out
-      → Filling need b w width parents slots old count (i + 1) (set out i r)
-  filling-next i out m before after r h e f g q k =
-      record {
-        long = k .long;
-        wide = k .wide;
-        filled =
-            cells-next at-place blankCell columnLimit i out r h
-            (q ∙ rw (e, f, g, ← at-live count old i (rw (k .long) h), ← at-live width slots i (rw (k .wide) h)))
-            (k .filled);
-      }
-
-pub filling-end : (need : Bool) (b : AncestorColumnBounds) (w : Swap) (width : ℕ) (parents : List ParentColumn) (slots : List Slot) (bare : Columns) (i : ℕ) (out : List Cell)
-    → i ≡ width → Filling need b w width parents slots (bare .slots) (bare .count) i out → out ≡ cellsIn need b w parents bare slots width
-filling-end need b w width parents slots bare i out e k =
-    k .filled
-    ∙ ap (λ (n : ℕ). cellsFrom (λ (m : ℕ). cellOf need b w m (metAt parents m) (at (columnsOf bare) m) (at (live width slots) m)) 0 n ++ replicate (columnLimit - n) blankCell) e
+  pub filling-end : (i : ℕ) (out : List Cell) → i ≡ width → Filling i out → out ≡ cellsIn need b w (parentsIn parents) (record { slots = slotsIn bare; count = count }) (slotsIn codes) width
+  filling-end i out e k = k ∙ ap (λ (n : ℕ). cellsFrom at-place 0 n ++ replicate (columnLimit - n) blankCell) e
 
 pub lines-done : (s : Settled) (bare : Columns) (width c n : ℕ) (r : AncestorColumnBounds) (need : Bool) (cells : List Cell)
     → r ≡ boundsOf (mets width (s .parents)) c → need ≡ linked r (s .swap) → n ≡ min width columnLimit
     → cells ≡ cellsIn need r (s .swap) (s .parents) bare (s .slots) n → record { «link_line» = need; cells = cells } ≡ linesOf s bare width c
 lines-done s bare width c n r need cells e f h g = rw (g, f, e, h)
+
+-- what a cell's test says where it holds
+pub nothing-ends : (here free gone : Bool) → (not here && (free && not gone)) ≡ true → (here ≡ false) × (free ≡ true) × (gone ≡ false)
+nothing-ends true b c h = let z : _≡_ {A = ℕ} 0 1 = cc in absurd (omega arith)
+nothing-ends false false c h = let z : _≡_ {A = ℕ} 0 1 = cc in absurd (omega arith)
+nothing-ends false true true h = let z : _≡_ {A = ℕ} 0 1 = cc in absurd (omega arith)
+nothing-ends false true false h = (refl, refl, refl)
+
+-- what a column shows, by the code's tests
+pub shown-parent : {A : Type 0} (c : Column) (x y z : A) (p : Bool) → p ≡ isParent c → p ≡ true → x ≡ cond (isParent c) x (cond (isAncestor c) y z)
+shown-parent c x y z p e t = rw (← e, t)
+
+pub shown-ancestor : {A : Type 0} (c : Column) (x y z : A) (p q : Bool) → p ≡ isParent c → p ≡ false → q ≡ isAncestor c → q ≡ true → y ≡ cond (isParent c) x (cond (isAncestor c) y z)
+shown-ancestor c x y z p q e t f u = rw (← e, t, ← f, u)
+
+pub shown-blank : {A : Type 0} (c : Column) (x y z : A) (p q : Bool) → p ≡ isParent c → p ≡ false → q ≡ isAncestor c → q ≡ false → z ≡ cond (isParent c) x (cond (isAncestor c) y z)
+shown-blank c x y z p q e t f u = rw (← e, t, ← f, u)
+
+-- what goes straight on does so in full
+and-yes : (b : Bool) → (b && not false) ≡ b
+and-yes true = refl
+and-yes false = refl
+
+pub upright-done : (m : Marks) (c : Column) (p q : Bool) → p ≡ isParent c → q ≡ isAncestor c
+    → record {
+      «horiz_parent» = m .«horiz_parent»;
+      «horiz_ancestor» = m .«horiz_ancestor»;
+      «vert_parent» = p || m .«vert_parent»;
+      «vert_ancestor» = q || m .«vert_ancestor»;
+      «left_fork_parent» = m .«left_fork_parent»;
+      «left_fork_ancestor» = m .«left_fork_ancestor»;
+      «right_fork_parent» = m .«right_fork_parent»;
+      «right_fork_ancestor» = m .«right_fork_ancestor»;
+      «left_merge_parent» = m .«left_merge_parent»;
+      «left_merge_ancestor» = m .«left_merge_ancestor»;
+      «right_merge_parent» = m .«right_merge_parent»;
+      «right_merge_ancestor» = m .«right_merge_ancestor»;
+      child = m .child;
+    }
+    ≡ withUprights false c m
+upright-done m c p q e f = rw (e, f, and-yes (isParent c), and-yes (isAncestor c))

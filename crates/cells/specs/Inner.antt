@@ -3,19 +3,16 @@ use Prim.Native.Nat.{ℕ, _-_, min}
 use mathlib.Core.Bool.{Bool, cond}
 use mathlib.Core.List.{List, _++_}
 use lib.ListN.{replicate}
-use Rattle.column.specs.declared.Columns.{Columns}
 use Rattle.column.specs.declared.Slot.{Slot}
 use Rattle.column.specs.Columns.{columnLimit, at, live}
 use Rattle.render.specs.declared.types.Cell.{Cell}
 use Rattle.render.specs.Lines.{blankCell}
 use Rattle.cells.specs.declared.RowLines.{RowLines}
 use Rattle.links.specs.declared.AncestorColumnBounds.{AncestorColumnBounds}
-use Rattle.links.specs.declared.ParentColumn.{ParentColumn}
 use Rattle.links.specs.declared.Swap.{Swap}
-use Rattle.placing.specs.declared.Settled.{Settled}
 use Rattle.links.specs.Links.{boundsOf, linked}
-use Rattle.links.specs.Inner.{mets}
-use Rattle.placing.specs.Inner.{columnsOf, metAt}
+use Rattle.links.specs.Inner.{ParentColumn, mets}
+use Rattle.placing.specs.Inner.{Columns, columnsOf, metAt, Settled}
 use Rattle.cells.specs.Cells.{besideNode, cellsFrom, cellOf}
 use lib.Dec.{eqb}
 use Rattle.column.specs.declared.Column.{Column}

@@ -15,7 +15,8 @@ use Rattle.column.specs.declared.Column.the-variants.{Empty, Blocked, Re
 use Rattle.column.specs.declared.Slot.{Slot}
 use Rattle.column.specs.declared.Found.{Found}
 use Rattle.column.specs.declared.Found.the-variants.{At, Nothing}
-use Rattle.column.specs.Columns.{columnLimit, isEmpty, next, first, findEmpty, vacant, unblock, keep, trim, at, put, live, emptySlot, SpareEmpty, Mapped, WasReset}
+use Rattle.column.specs.Columns.{columnLimit, isEmpty, next, first, findEmpty, vacant, unblock, keep, trim, at, put, live, emptySlot, SpareEmpty}
+use Rattle.column.specs.Codes.{columnIn, slotIn, slotsIn}
 use Rattle.column.proofs.Front.{length-front, front-getD, front-set, front-suc, front-clamp}
 
 abbrev pub columnOf : Slot → Column
@@ -115,36 +116,17 @@ module _ (f : Column → Column) where
   mapFrom-set (c ∷ cs) zero d h = refl
   mapFrom-set (c ∷ cs) (suc i) d h = ap (λ (r : List Column). c ∷ r) (mapFrom-set cs i d (le-of-suc-le-suc h))
 
-  -- what such a loop keeps: l₀ is the array at first, l the array once i slots are done
-  pub record Turning (count : ℕ) (l₀ : List Slot) (i : ℕ) (l : List Slot) : Type 0 where
-    pub long : length l ≡ columnLimit
-    pub left : mapFrom f i (live count l) ≡ map f (live count l₀)
-    pub rest : drop count l ≡ drop count l₀
-
-  module _ (count : ℕ) (l₀ : List Slot) where
-    pub turning-start : length l₀ ≡ columnLimit → Turning count l₀ 0 l₀
-    turning-start h = record { long = h; left = mapFrom-all (live count l₀); rest = refl }
-
+  -- what such a loop keeps, once i slots are done: e is what there is to do from there
+  module _ (count i : ℕ) (l : List Slot) (cs : List Column) (e : mapFrom f i (live count l) ≡ cs) where
     -- slot i is stored at f of what it held
-    pub turning-next : (i : ℕ) (l : List Slot) (s : Slot) → i < min count columnLimit → s .column ≡ f ((getD l i emptySlot) .column)
-        → Turning count l₀ i l → Turning count l₀ (i + 1) (set l i s)
-    turning-next i l s h e t =
-        let k : i < length l = omega (arith, t .long) in
-        record {
-          long = length-set l i s ∙ t .long;
-          left =
-              rw (add-one, front-set columnOf, e, ← front-getD columnOf count l i emptySlot Empty (omega arith) k)
-              (mapFrom-set (live count l) i Empty (rw length-front (omega arith)))
-              ∙ t .left;
-          rest = drop-set-lt count l i s (omega arith) ∙ t .rest;
-        }
+    pub turning-next : (s : Slot) → i < count → i < length l → s .column ≡ f ((getD l i emptySlot) .column) → mapFrom f (i + 1) (live count (set l i s)) ≡ cs
+    turning-next s h k q =
+        rw (add-one, front-set columnOf, q, ← front-getD columnOf count l i emptySlot Empty h k)
+        (mapFrom-set (live count l) i Empty (rw length-front (omega arith)))
+        ∙ e
 
-    pub turning-end : (i : ℕ) (l : List Slot) → min count columnLimit ≤ i → Turning count l₀ i l → Mapped f l₀ count l
-    turning-end i l h t =
-        record {
-          columns = sym (mapFrom-end (live count l) i (rw (length-front columnOf count l, t .long) h)) ∙ t .left;
-          rest = t .rest;
-        }
+    pub turning-end : min count (length l) ≤ i → live count l ≡ cs
+    turning-end h = sym (mapFrom-end (live count l) i (rw (length-front columnOf count l) h)) ∙ e
 
 -- ---- trimming
 trim-empty : (cs : List Column) (c : Column) → isEmpty c ≡ true → trim (cs ++ (c ∷ [])) ≡ trim cs
@@ -187,28 +169,6 @@ pub trim-at : (cs : List Column) (i : ℕ) → at (trim cs) i ≡ at cs i
 trim-at [] i = refl
 trim-at (c ∷ cs) zero = keep-at c (trim cs) 0
 trim-at (c ∷ cs) (suc i) = keep-at c (trim cs) (suc i) ∙ trim-at cs i
-
--- ---- reset
-module _ (l r : List Slot) (count m : ℕ) (f : Mapped unblock l count r) (h : m ≤ columnLimit) (e : live m r ≡ trim (live count r)) where
-  -- a slot between the new count and the old one was trimmed, so it is Empty
-  went : (i : ℕ) → m ≤ i → i < count → i < length r → (getD r i emptySlot) .column ≡ Empty
-  went i p q k =
-      sym (front-getD columnOf count r i emptySlot Empty q k)
-      ∙ sym (trim-at (live count r) i)
-      ∙ rw (← e) (List·getD-eq-default (live m r) Empty {n = i} (rw length-front (omega arith)))
-
-  stayed : (i : ℕ) → count ≤ i → getD r i emptySlot ≡ getD l i emptySlot
-  stayed i q =
-      let k : count + (i - count) ≡ i = omega arith in
-      rw (← k, ← getD-drop count r (i - count) emptySlot, ← getD-drop count l (i - count) emptySlot, f .rest)
-
-  rest : SpareEmpty count l → (i : ℕ) → m ≤ i → (b d : Bool) → ltb i count ≡ b → ltb i (length r) ≡ d → (getD r i emptySlot) .column ≡ Empty
-  rest g i p true true q k = went i p (ltb-true _ _ q) (ltb-true _ _ k)
-  rest g i p true false q k = rw (List·getD-eq-default r emptySlot {n = i} (ltb-false _ _ k))
-  rest g i p false d q k = rw (stayed i (ltb-false _ _ q)) (g i (ltb-false _ _ q))
-
-  pub reset-done : WasReset l count (record { slots = r; count = m })
-  reset-done = record { columns = rw (e, f .columns); fits = h; rest = λ g i p. rest g i p (ltb i count) (ltb i (length r)) refl refl }
 
 -- ---- where a search ends: below the number of columns
 module _ (p : Column → Bool) where

@@ -9,7 +9,6 @@ use lib.ListN.{length, getD, take, drop}
 use Rattle.column.specs.declared.Column.{Column}
 use Rattle.column.specs.declared.Column.the-variants.{Empty, Blocked, Reserved, Ancestor, Parent}
 use Rattle.column.specs.declared.Slot.{Slot}
-use Rattle.column.specs.declared.Columns.{Columns}
 use Rattle.column.specs.declared.Found.{Found}
 use Rattle.column.specs.declared.Found.the-variants.{At, Nothing}
 
@@ -154,13 +153,3 @@ columnAt s i n = cond (ltb i n) (s .column) Empty
 -- the slots past the count are Empty: nothing that a call gives depends on it, and from a new shaper on it holds
 abbrev pub SpareEmpty : ℕ → List Slot → Type 0
 SpareEmpty n slots = (i : ℕ) → n ≤ i → (getD slots i emptySlot) .column ≡ Empty
-
--- what the array functions promise: the live columns by a definition, and what they leave past the count
-pub record Mapped (f : Column → Column) (slots : List Slot) (count : ℕ) (r : List Slot) : Type 0 where
-  pub columns : live count r ≡ map f (live count slots)
-  pub rest : drop count r ≡ drop count slots
-
-pub record WasReset (slots : List Slot) (count : ℕ) (r : Columns) : Type 0 where
-  pub columns : live (r .count) (r .slots) ≡ reset (live count slots)
-  pub fits : r .count ≤ columnLimit
-  pub rest : SpareEmpty count slots → SpareEmpty (r .count) (r .slots)

@@ -1,9 +1,12 @@
 // The columns of the graph, after column.rs: what a column is, merging, the lookups and reset.
 // They are held as an array of slots and a count; a count above the limit is read as the limit.
+// A call works on them as an array of words, one for each column, since such an array can be lent.
 ghost use mathlib.Core.Path.{_≡_};
-ghost use Prim.Native.Nat.{_+_, _≤_, min, max};
-ghost use lib.ListN.{set};
-ghost use Rattle.column.specs.Columns.{columnLimit, rank as rankOf, holds, isEmpty, isReserved, isAncestor, isParent, columnAt, merge as merged, first, find as findIn, findEmpty, vacant as vacantIn, direct, unblock as unblocked, trim, live, emptySlot, Mapped, WasReset};
+ghost use mathlib.Core.List.{map};
+ghost use Prim.Native.Nat.{_+_, _≤_, _<_, min, max};
+ghost use lib.ListN.{length, set};
+ghost use Rattle.column.specs.Columns.{columnLimit, rank as rankOf, holds, isEmpty, isReserved, isAncestor, isParent, columnAt, merge as merged, first, find as findIn, findEmpty, vacant as vacantIn, direct, unblock as unblocked, trim, reset as resetOf, live, emptySlot, SpareEmpty};
+ghost use Rattle.column.specs.Codes.{idLimit, idIn, columnIn, slotIn, slotsIn};
 
 // The most columns that are held.
 pub const COLUMN_LIMIT: usize = 64;
@@ -22,12 +25,6 @@ pub struct Slot {
     pub column: Column,
 }
 
-// The columns: the first `count` slots.
-pub struct Columns {
-    pub slots: [Slot; COLUMN_LIMIT],
-    pub count: usize,
-}
-
 // What a lookup gives: a column's index, or nothing.
 pub enum Found {
     At(usize),
@@ -35,19 +32,6 @@ pub enum Found {
 }
 
 impl Column {
-    // Whether the column holds the id.
-    pub fn matches(self, n: u32) -> bool
-        ensures { λ r. ⌜ r ≡ holds n self ⌝ }
-    {
-        match self {
-            Column::Empty => false,
-            Column::Blocked => false,
-            Column::Reserved(o) => n == o,
-            Column::Ancestor(o) => n == o,
-            Column::Parent(o) => n == o,
-        }
-    }
-
     // Whether the column is Empty.
     pub fn is_empty(self) -> bool
         ensures { λ r. ⌜ r ≡ isEmpty self ⌝ }
@@ -147,6 +131,46 @@ impl Column {
             Column::Parent(_) => self,
         }
     }
+
+    // The column in one word: eight times its id, and its rank.
+    pub fn code(self) -> u64
+        ensures { λ r. ⌜ columnIn r ≡ self ⌝ }
+    {
+        match self {
+            Column::Empty => 0,
+            Column::Blocked => 1,
+            Column::Reserved(node) => wide(node) * 8 + 2,
+            Column::Ancestor(node) => wide(node) * 8 + 3,
+            Column::Parent(node) => wide(node) * 8 + 4,
+        }
+    }
+}
+
+// An id as a wider number.
+fn wide(node: u32) -> u64
+    ensures { λ r. ⌜ (r ≡ node) × (r < idLimit) ⌝ }
+{
+    node as u64
+}
+
+// The id of a word.
+fn id_of(code: u64) -> u32
+    ensures { λ r. ⌜ r ≡ idIn code ⌝ }
+{
+    (code / 8 % 0x100000000) as u32
+}
+
+// The column of a word.
+pub fn column_of(code: u64) -> Column
+    ensures { λ r. ⌜ r ≡ columnIn code ⌝ }
+{
+    match code % 8 {
+        0 => Column::Empty,
+        1 => Column::Blocked,
+        2 => Column::Reserved(id_of(code)),
+        3 => Column::Ancestor(id_of(code)),
+        _ => Column::Parent(id_of(code)),
+    }
 }
 
 impl Slot {
@@ -159,16 +183,45 @@ impl Slot {
     }
 }
 
-impl Slot {
-    // The slot's column where the slot at `index` is live, else Empty.
-    pub fn column_at(self, index: usize, count: usize) -> Column
-        ensures { λ r. ⌜ r ≡ columnAt self index count ⌝ }
-    {
-        if index < count {
-            return self.column;
-        }
-        Column::Empty
+// Whether a word's column is Parent; its rank tells.
+pub fn is_parent(code: u64) -> bool
+    ensures { λ r. ⌜ r ≡ isParent (columnIn code) ⌝ }
+{
+    4 <= code % 8
+}
+
+// Whether a word's column is Ancestor.
+pub fn is_ancestor(code: u64) -> bool
+    ensures { λ r. ⌜ r ≡ isAncestor (columnIn code) ⌝ }
+{
+    code % 8 == 3
+}
+
+// Whether a word's column holds the id.
+fn is_held_by(code: u64, node: u32) -> bool
+    ensures { λ r. ⌜ r ≡ holds node (columnIn code) ⌝ }
+{
+    (2 <= code % 8) & (node == id_of(code))
+}
+
+// The word of a column after a row: a Blocked one becomes Empty.
+fn unblocked_code(code: u64) -> u64
+    ensures { λ r. ⌜ columnIn r ≡ unblocked (columnIn code) ⌝ }
+{
+    if code % 8 == 1 {
+        return 0;
     }
+    code
+}
+
+// The column of the word at `index` where it is live, else Empty.
+pub fn column_at(code: u64, index: usize, count: usize) -> Column
+    ensures { λ r. ⌜ r ≡ columnAt (slotIn code) index count ⌝ }
+{
+    if index < count {
+        return column_of(code);
+    }
+    Column::Empty
 }
 
 // The number of live columns.
@@ -182,16 +235,55 @@ pub fn live_count(count: usize) -> usize
     }
 }
 
-// The first column that holds the id.
-pub fn find(slots: [Slot; COLUMN_LIMIT], count: usize, node: u32) -> Found
-    ensures { λ r. ⌜ r ≡ findIn node (live count slots) ⌝ }
+// The number of live columns among words.
+pub fn live_words(codes: &[u64], count: usize) -> usize
+    ensures { λ r. ⌜ r ≡ min count (length (now (codes .entry))) ⌝ }
 {
-    let n = live_count(count);
+    if codes.len() < count {
+        codes.len()
+    } else {
+        count
+    }
+}
+
+// Writes the live columns as words.
+pub fn write_codes(codes: &mut [u64], slots: [Slot; COLUMN_LIMIT], count: usize)
+    ensures { λ r. ⌜ (length (now (codes .entry)) ≡ columnLimit → live count (slotsIn (now (codes .exit))) ≡ live count slots) ⌝ }
+{
+    let n = live_words(codes, live_count(count));
+    let mut at: usize = 0;
+    while at < n {
+        let slot = slots[at];
+        let column = slot.column;
+        codes[at] = column.code();
+        at += 1;
+    }
+}
+
+// The slots of the first words, as many as are counted; the others are Empty.
+pub fn slots_of(codes: &[u64; COLUMN_LIMIT], count: usize) -> [Slot; COLUMN_LIMIT]
+    ensures { λ r. ⌜ (live count r ≡ live count (slotsIn (now (codes .entry)))) × SpareEmpty count r ⌝ }
+{
+    let n = live_words(codes, count);
+    let empty = Slot::empty();
+    let mut slots = [empty; COLUMN_LIMIT];
+    let mut at: usize = 0;
+    while at < n {
+        let column = column_of(codes[at]);
+        slots[at] = Slot { column };
+        at += 1;
+    }
+    slots
+}
+
+// The first column that holds the id.
+pub fn find(codes: &[u64], count: usize, node: u32) -> Found
+    ensures { λ r. ⌜ r ≡ findIn node (live count (slotsIn (now (codes .entry)))) ⌝ }
+{
+    let n = live_words(codes, count);
     let mut index: usize = 0;
     while index < n {
-        let slot = slots[index];
-        let column = slot.column;
-        if column.matches(node) {
+        if is_held_by(codes[index], node) {
             return Found::At(index);
         }
         index += 1;
@@ -200,14 +292,13 @@ pub fn find(slots: [Slot; COLUMN_LIMIT], count: usize, node: u32) -> Found
 }
 
 // The first Empty column.
-pub fn first_empty(slots: [Slot; COLUMN_LIMIT], count: usize) -> Found
-    ensures { λ r. ⌜ r ≡ first isEmpty (live count slots) ⌝ }
+pub fn first_empty(codes: &[u64], count: usize) -> Found
+    ensures { λ r. ⌜ r ≡ first isEmpty (live count (slotsIn (now (codes .entry)))) ⌝ }
 {
-    let n = live_count(count);
+    let n = live_words(codes, count);
     let mut i: usize = 0;
     while i < n {
-        let slot = slots[i];
-        let column = slot.column;
+        let column = column_of(codes[i]);
         if column.is_empty() {
             return Found::At(i);
         }
@@ -217,14 +308,13 @@ pub fn first_empty(slots: [Slot; COLUMN_LIMIT], count: usize) -> Found
 }
 
 // The first Empty column but column `skip`.
-pub fn first_other_empty(slots: [Slot; COLUMN_LIMIT], count: usize, skip: usize) -> Found
-    ensures { λ r. ⌜ r ≡ first isEmpty (set (live count slots) skip Column.Blocked) ⌝ }
+pub fn first_other_empty(codes: &[u64], count: usize, skip: usize) -> Found
+    ensures { λ r. ⌜ r ≡ first isEmpty (set (live count (slotsIn (now (codes .entry)))) skip Column.Blocked) ⌝ }
 {
-    let n = live_count(count);
+    let n = live_words(codes, count);
     let mut place: usize = 0;
     while place < n {
-        let slot = slots[place];
-        let column = slot.column;
+        let column = column_of(codes[place]);
         if column.is_empty() & (place != skip) {
             return Found::At(place);
         }
@@ -234,27 +324,26 @@ pub fn first_other_empty(slots: [Slot; COLUMN_LIMIT], count: usize, skip: usize)
 }
 
 // Column `index` if it is Empty, else the first Empty one.
-pub fn find_empty(slots: [Slot; COLUMN_LIMIT], count: usize, index: usize) -> Found
-    ensures { λ r. ⌜ r ≡ findEmpty index (live count slots) ⌝ }
+pub fn find_empty(codes: &[u64], count: usize, index: usize) -> Found
+    ensures { λ r. ⌜ r ≡ findEmpty index (live count (slotsIn (now (codes .entry)))) ⌝ }
 {
-    let n = live_count(count);
+    let n = live_words(codes, count);
     if n <= index {
-        return first_empty(slots, count);
+        return first_empty(codes, count);
     }
-    let slot = slots[index];
-    let column = slot.column;
+    let column = column_of(codes[index]);
     if column.is_empty() {
         return Found::At(index);
     }
-    first_empty(slots, count)
+    first_empty(codes, count)
 }
 
 // The first Empty column, else the index of a new last one: the limit itself where there is no room for one.
-pub fn vacant(slots: [Slot; COLUMN_LIMIT], count: usize) -> usize
-    ensures { λ r. ⌜ r ≡ vacantIn (live count slots) ⌝ }
+pub fn vacant(codes: &[u64], count: usize) -> usize
+    ensures { λ r. ⌜ r ≡ vacantIn (live count (slotsIn (now (codes .entry)))) ⌝ }
 {
-    let Found::At(index) = first_empty(slots, count) else {
-        return live_count(count);
+    let Found::At(index) = first_empty(codes, count) else {
+        return live_words(codes, count);
     };
     index
 }
@@ -273,48 +362,39 @@ pub fn count_with(count: usize, index: usize) -> usize
     index + 1
 }
 
-// Every Ancestor column becomes Parent. Slots past the count stay.
-pub fn convert_ancestor_to_parent(slots: [Slot; COLUMN_LIMIT], count: usize) -> [Slot; COLUMN_LIMIT]
-    ensures { λ r. ⌜ Mapped direct slots count r ⌝ }
+// Every Ancestor column becomes Parent.
+pub fn convert_ancestor_to_parent(codes: &mut [u64], count: usize)
+    ensures { λ r. ⌜ live count (slotsIn (now (codes .exit))) ≡ map direct (live count (slotsIn (now (codes .entry)))) ⌝ }
 {
-    let n = live_count(count);
-    let mut out = slots;
+    let n = live_words(codes, count);
     let mut at: usize = 0;
     while at < n {
-        let slot = out[at];
-        let old = slot.column;
+        let old = column_of(codes[at]);
         let column = old.convert_ancestor_to_parent();
-        out[at] = Slot { column };
+        codes[at] = column.code();
         at += 1;
     }
-    out
 }
 
-// Every Blocked column becomes Empty. Slots past the count stay.
-fn unblock(slots: [Slot; COLUMN_LIMIT], count: usize) -> [Slot; COLUMN_LIMIT]
-    ensures { λ r. ⌜ Mapped unblocked slots count r ⌝ }
+// Every Blocked column becomes Empty.
+fn unblock(codes: &mut [u64], count: usize)
+    ensures { λ r. ⌜ live count (slotsIn (now (codes .exit))) ≡ map unblocked (live count (slotsIn (now (codes .entry)))) ⌝ }
 {
-    let n = live_count(count);
-    let mut out = slots;
+    let n = live_words(codes, count);
     let mut at: usize = 0;
     while at < n {
-        let slot = out[at];
-        let old = slot.column;
-        let column = old.reset();
-        out[at] = Slot { column };
+        codes[at] = unblocked_code(codes[at]);
         at += 1;
     }
-    out
 }
 
 // The count without the Empty columns at the end.
-fn trimmed(slots: [Slot; COLUMN_LIMIT], count: usize) -> usize
-    ensures { λ r. ⌜ (r ≤ columnLimit) × (live r slots ≡ trim (live count slots)) ⌝ }
+fn trimmed(codes: &[u64], count: usize) -> usize
+    ensures { λ r. ⌜ (r ≤ length (now (codes .entry))) × (live r (slotsIn (now (codes .entry))) ≡ trim (live count (slotsIn (now (codes .entry))))) ⌝ }
 {
-    let mut n = live_count(count);
+    let mut n = live_words(codes, count);
     while 0 < n {
-        let slot = slots[n - 1];
-        let column = slot.column;
+        let column = column_of(codes[n - 1]);
         if column.is_empty() {
             n -= 1;
         } else {
@@ -324,14 +404,10 @@ fn trimmed(slots: [Slot; COLUMN_LIMIT], count: usize) -> usize
     n
 }
 
-// What ends a row: Blocked becomes Empty, then Empty columns at the end go.
-pub fn reset(slots: [Slot; COLUMN_LIMIT], count: usize) -> Columns
-    ensures { λ r. ⌜ WasReset slots count r ⌝ }
+// What ends a row: Blocked becomes Empty, then Empty columns at the end go. Gives the count then.
+pub fn reset(codes: &mut [u64], count: usize) -> usize
+    ensures { λ r. ⌜ (r ≤ length (now (codes .entry))) × (live r (slotsIn (now (codes .exit))) ≡ resetOf (live count (slotsIn (now (codes .entry))))) ⌝ }
 {
-    let out = unblock(slots, count);
-    let n = trimmed(out, count);
-    Columns {
-        slots: out,
-        count: n,
-    }
+    unblock(codes, count);
+    trimmed(codes, count)
 }

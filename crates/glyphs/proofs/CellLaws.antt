@@ -1,50 +1,26 @@
 -- Laws of the cells of a line, for any glyphs of at most eight bytes: what a writer of a line cites.
-use mathlib.Core.Path.{_≡_, refl, sym, ap, _∙_}
+use mathlib.Core.Path.{_≡_, refl, ap}
 use mathlib.Core.List.{List, [], _∷_, _++_, map}
-use Prim.Native.Nat.{ℕ, suc, _*_, _<_, _≤_}
-use lib.ListN.{length, getD, take}
-use Rattle.column.specs.Columns.{columnLimit}
-use Rattle.render.specs.declared.render.LinkLine.{LinkLine}
+use Prim.Native.Nat.{ℕ, suc, _*_, _≤_}
+use lib.ListN.{length}
 use Rattle.render.specs.declared.types.Cell.{Cell}
 use Rattle.render.specs.Lines.{blankCell}
 use Rattle.render.specs.Link.{noMarks}
 use Rattle.glyphs.specs.declared.Renderer.{Renderer}
 use Rattle.glyphs.specs.declared.types.Choice.{Choice}
-use Rattle.glyphs.specs.declared.types.Glyph.{Glyph}
 use Rattle.glyphs.specs.declared.types.Line.{Line}
 use Rattle.glyphs.specs.declared.types.Place.{Place}
 use Rattle.glyphs.specs.declared.types.Row.{Row}
 use Rattle.glyphs.specs.Cells.{joinsFrom}
-use Rattle.glyphs.specs.Inner.{Holds, nextIndex, nextLink, cellBytes, cellsText}
+use Rattle.glyphs.specs.Inner.{cellBytes, cellsText}
 use Rattle.glyphs.specs.Joins.{joins}
 use Rattle.glyphs.specs.Row.{firstLink, places}
 use Rattle.glyphs.proofs.JoinLaws.{joins-short}
-use Rattle.glyphs.proofs.PlaceLaws.{length-places, length-row, place-made}
+use Rattle.glyphs.proofs.PlaceLaws.{length-places}
 use Rattle.glyphs.proofs.TableLaws.{cell-short}
 
 abbrev pub noPlace : Place
 noPlace = record { index = 0; cell = blankCell; next = noMarks }
-
-module _ (glyphs : ℕ → List ℕ) (q : Renderer) (r : Row) (mark : ℕ) (l : Line) where
-  -- the glyph that a loop makes for cell i is that of place i
-  module _ (cells : List Cell) (width i : ℕ) (long : length cells ≡ columnLimit) (fits : width ≤ columnLimit) (h : i < width)
-      (g : Glyph) {k : ℕ} {next : LinkLine} (e : k ≡ nextIndex i) (n : next ≡ nextLink (getD cells k blankCell) i width)
-      (made : Holds g (cellBytes glyphs q r mark l (record { index = i; cell = getD cells i blankCell; next = next }))) where
-    placed-there : cellBytes glyphs q r mark l (record { index = i; cell = getD cells i blankCell; next = next })
-        ≡ cellBytes glyphs q r mark l (getD (places 0 (take width cells)) i noPlace)
-    placed-there = ap (cellBytes glyphs q r mark l) (place-made cells width i long fits h blankCell noPlace _ (rw (n, e)))
-
-    pub in-row : i < length (places 0 (take width cells))
-    in-row = rw (length-row cells width i long fits) h
-
-    pub cell-small : ((m : ℕ) → length (glyphs m) ≤ 8) → g .length ≤ 8
-    cell-small s = rw (made .count) (cell-short glyphs s q r mark l _)
-
-    pub cell-count : g .length ≡ length (cellBytes glyphs q r mark l (getD (places 0 (take width cells)) i noPlace))
-    cell-count = made .count ∙ ap length placed-there
-
-    pub cell-bytes : take (g .length) (g .bytes) ≡ cellBytes glyphs q r mark l (getD (places 0 (take width cells)) i noPlace)
-    cell-bytes = sym (made .bytes) ∙ placed-there
 
 -- ---- how long the cells can be
 module _ (glyphs : ℕ → List ℕ) (s : (n : ℕ) → length (glyphs n) ≤ 8) (q : Renderer) (r : Row) (mark : ℕ) where

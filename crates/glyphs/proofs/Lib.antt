@@ -4,3 +4,5 @@ pub mod JoinLaws
 pub mod OverLaws
 pub mod PlaceLaws
 pub mod TableLaws
+pub mod DrawLaws
+pub mod BoxLaws

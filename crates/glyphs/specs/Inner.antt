@@ -1,19 +1,24 @@
 -- What the inner functions give: a glyph by value, an entry of a table, the next cell, the bytes of a cell and of a line's cells.
-use Prim.Native.Nat.{ℕ, _+_, _-_, _*_, min}
+use Prim.Native.Nat.{ℕ, _+_, _-_, _*_, _≤_, min}
 use mathlib.Core.Path.{_≡_}
 use mathlib.Core.Bool.{cond}
-use mathlib.Core.List.{List, [], _∷_, map}
+use mathlib.Core.List.{List, [], _∷_, _++_, map}
 use lib.Dec.{ltb}
 use lib.ListN.{length, getD, take}
 use Rattle.column.specs.Columns.{columnLimit}
 use Rattle.render.specs.declared.render.LinkLine.{LinkLine}
 use Rattle.render.specs.declared.types.Cell.{Cell}
+use Rattle.render.specs.declared.types.DashStyle.{DashStyle}
 use Rattle.render.specs.Link.{noMarks}
 use Rattle.glyphs.specs.declared.Renderer.{Renderer}
+use Rattle.glyphs.specs.declared.types.Choice.{Choice}
+use Rattle.glyphs.specs.declared.types.Choice.the-variants as choice
 use Rattle.glyphs.specs.declared.types.Glyph.{Glyph}
 use Rattle.glyphs.specs.declared.types.Line.{Line}
 use Rattle.glyphs.specs.declared.types.Place.{Place}
 use Rattle.glyphs.specs.declared.types.Row.{Row}
+use Rattle.glyphs.specs.BoxDrawing.{ancestor, styled}
+use Rattle.glyphs.specs.GlyphSets.{SPACE, PARENT, TERMINATION}
 use Rattle.glyphs.specs.Cells.{choiceOf, bytesOf, glyphsOf}
 use Rattle.glyphs.specs.Joins.{joins}
 use Rattle.glyphs.specs.Row.{places}
@@ -22,6 +27,27 @@ use Rattle.glyphs.specs.Row.{places}
 pub record Holds (g : Glyph) (bs : List ℕ) : Type 0 where
   pub bytes : bs ≡ take (g .length) (g .bytes)
   pub count : g .length ≡ length bs
+
+-- bytes placed at the start: their count, and that they stand there; what stands behind them is left open
+pub record Placed (bs after : List ℕ) (r : ℕ) : Type 0 where
+  pub count : r ≡ length bs
+  pub bytes : take r after ≡ bs
+
+-- the number of the glyph that a choice is drawn by, 15 where there is none
+abbrev pub glyphNumber : DashStyle → Choice → ℕ
+glyphNumber d choice.Space = SPACE
+glyphNumber d choice.Solid = PARENT
+glyphNumber d choice.Dashed = ancestor d
+glyphNumber d choice.Mark = 15
+glyphNumber d choice.End = TERMINATION
+glyphNumber d (choice.Two a b) = 15
+glyphNumber d (choice.Three a b c) = 15
+glyphNumber d (choice.Glyph n) = styled d n
+
+-- a line drawn where there is room for any: the count of its bytes, which stand at the start; what stands behind them is left open
+pub record Draw (text before after : List ℕ) (r : ℕ) : Type 0 where
+  pub count : 520 ≤ length before → r ≡ length text
+  pub bytes : 520 ≤ length before → take r after ≡ text
 
 -- glyph n of a table: a count, read as at most 8, and eight places
 abbrev pub placed : List ℕ → ℕ → List ℕ

@@ -1,10 +1,12 @@
 // The glyph sets, the link line and the bytes of the box drawing renderers, after box_drawing.rs.
 ghost use mathlib.Core.Path.{_≡_};
-ghost use Prim.Native.Nat.{min};
+ghost use Prim.Native.Nat.{_+_, _≤_, min};
+ghost use lib.ListN.{length};
 ghost use Rattle.glyphs.specs.BoxDrawing.{ancestor, across, between, beside, plain, boxLink, styled, bytes};
-ghost use Rattle.glyphs.specs.Inner.{Holds, entry};
+ghost use Rattle.glyphs.specs.Inner.{Holds, Placed, entry, glyphNumber};
 use crate::types::Choice;
 use crate::types::Glyph;
+use crate::types::place_glyph;
 use render::DashStyle;
 use render::LinkLine;
 
@@ -266,18 +268,35 @@ fn own_dash(dash_style: DashStyle, n: usize) -> usize
     n
 }
 
-// The bytes of a choice in the glyph set of a table.
-pub(crate) fn glyph(table: &[u8; TABLE], choice: Choice, dash_style: DashStyle, mark: u8) -> Glyph
-    ensures { λ r. ⌜ Holds r (bytes (entry (now (table .entry))) «dash_style» mark choice) ⌝ }
+// The number of the glyph that a choice is drawn by, past the last where there is none.
+fn glyph_number(choice: Choice, dash_style: DashStyle) -> usize
+    ensures { λ r. ⌜ r ≡ glyphNumber «dash_style» choice ⌝ }
 {
     match choice {
-        Choice::Space => glyph_at(table, SPACE),
-        Choice::Solid => glyph_at(table, PARENT),
-        Choice::Dashed => glyph_at(table, dashed(dash_style)),
-        Choice::Mark => Glyph::two(mark, b' '),
-        Choice::End => glyph_at(table, TERMINATION),
-        Choice::Two(_, _) => Glyph::none(),
-        Choice::Three(_, _, _) => Glyph::none(),
-        Choice::Glyph(n) => glyph_at(table, own_dash(dash_style, n)),
+        Choice::Space => SPACE,
+        Choice::Solid => PARENT,
+        Choice::Dashed => dashed(dash_style),
+        Choice::Mark => COUNT,
+        Choice::End => TERMINATION,
+        Choice::Two(_, _) => COUNT,
+        Choice::Three(_, _, _) => COUNT,
+        Choice::Glyph(n) => own_dash(dash_style, n),
     }
+}
+
+// Writes the bytes of a choice from `at` on, by eight places, and gives their count.
+pub(crate) fn place_choice(
+    drawn: &mut [u8],
+    table: &[u8; TABLE],
+    choice: Choice,
+    dash_style: DashStyle,
+    mark: u8,
+) -> usize
+    requires { ⌜ 8 ≤ length (now drawn) ⌝ }
+    ensures { λ r. ⌜ Placed (bytes (entry (now (table .entry))) «dash_style» mark choice) (now (drawn .exit)) r ⌝ }
+{
+    let Choice::Mark = choice else {
+        return place_glyph(drawn, glyph_at(table, glyph_number(choice, dash_style)));
+    };
+    place_glyph(drawn, Glyph::two(mark, b' '))
 }

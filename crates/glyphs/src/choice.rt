@@ -1,18 +1,22 @@
 // What each cell is given in each line, and its bytes, in all renderers.
 ghost use mathlib.Core.Path.{_≡_};
+ghost use Prim.Native.Nat.{_+_, _≤_};
+ghost use lib.ListN.{length, take};
 ghost use Rattle.glyphs.specs.Ascii.{padChoice, nodeChoice, termChoice};
-ghost use Rattle.glyphs.specs.Inner.{Holds, nextIndex, nextLink, cellBytes, entry};
-ghost use Rattle.glyphs.specs.Cells.{choiceOf, bytesOf};
+ghost use Rattle.glyphs.specs.Inner.{Placed, Draw, nextIndex, nextLink, cellBytes, cellsText, entry};
+ghost use Rattle.glyphs.specs.Cells.{choiceOf};
 use crate::Renderer;
 use crate::ascii;
 use crate::ascii_large;
 use crate::box_drawing;
 use crate::box_drawing::TABLE;
+use crate::row::cell_count;
 use crate::types::Choice;
-use crate::types::Glyph;
+use crate::types::DRAWN;
 use crate::types::Line;
 use crate::types::Place;
 use crate::types::Row;
+use crate::types::place_glyph;
 use column::COLUMN_LIMIT;
 use render::Cell;
 use render::DashStyle;
@@ -68,9 +72,9 @@ fn link_choice(renderer: Renderer, row: Row, place: Place) -> Choice
             ascii::link_connection(row, cur, next),
         ),
         Renderer::AsciiLarge => ascii_large::top(dash_style, place.index, cur),
-        Renderer::Square => Choice::Glyph(box_drawing::link_glyph(row.merge, cur)),
-        Renderer::Curved => Choice::Glyph(box_drawing::link_glyph(row.merge, cur)),
-        Renderer::Dec => Choice::Glyph(box_drawing::link_glyph(row.merge, cur)),
+        Renderer::Square | Renderer::Curved | Renderer::Dec => {
+            Choice::Glyph(box_drawing::link_glyph(row.merge, cur))
+        }
     }
 }
 
@@ -113,28 +117,8 @@ fn cell_choice(renderer: Renderer, row: Row, line: Line, place: Place) -> Choice
     }
 }
 
-// The bytes of what a cell is given.
-fn choice_glyph(
-    table: &[u8; TABLE],
-    renderer: Renderer,
-    dash_style: DashStyle,
-    mark: u8,
-    index: usize,
-    choice: Choice,
-) -> Glyph
-    ensures { λ r. ⌜ Holds r (bytesOf (entry (now (table .entry))) renderer «dash_style» mark index choice) ⌝ }
-{
-    match renderer {
-        Renderer::Ascii => ascii::glyph(choice, dash_style, mark),
-        Renderer::AsciiLarge => ascii_large::glyph(choice, dash_style, mark, index),
-        Renderer::Square => box_drawing::glyph(table, choice, dash_style, mark),
-        Renderer::Curved => box_drawing::glyph(table, choice, dash_style, mark),
-        Renderer::Dec => box_drawing::glyph(table, choice, dash_style, mark),
-    }
-}
-
 // The index of the next cell; the last cell's is its own.
-pub fn next_index(i: usize) -> usize
+fn next_index(i: usize) -> usize
     ensures { λ r. ⌜ r ≡ nextIndex i ⌝ }
 {
     if i < COLUMN_LIMIT - 1 {
@@ -144,7 +128,7 @@ pub fn next_index(i: usize) -> usize
 }
 
 // The next cell's link, empty past the end.
-pub fn next_link(after: Cell, i: usize, width: usize) -> LinkLine
+fn next_link(after: Cell, i: usize, width: usize) -> LinkLine
     ensures { λ r. ⌜ r ≡ nextLink after i width ⌝ }
 {
     if i < width {
@@ -155,18 +139,64 @@ pub fn next_link(after: Cell, i: usize, width: usize) -> LinkLine
     LinkLine::EMPTY
 }
 
-// The bytes of a cell in a line.
-pub fn cell_glyph(
+// Writes the bytes of a cell in a line from `at` on, by eight places, and gives their count.
+fn place_cell(
+    drawn: &mut [u8],
     table: &[u8; TABLE],
     renderer: Renderer,
     row: Row,
     mark: u8,
     line: Line,
     place: Place,
-) -> Glyph
-    ensures { λ r. ⌜ Holds r (cellBytes (entry (now (table .entry))) renderer row mark line place) ⌝ }
+) -> usize
+    requires { ⌜ 8 ≤ length (now drawn) ⌝ }
+    ensures { λ r. ⌜ Placed (cellBytes (entry (now (table .entry))) renderer row mark line place) (now (drawn .exit)) r ⌝ }
 {
     let dash_style = row.dash_style;
     let choice = cell_choice(renderer, row, line, place);
-    choice_glyph(table, renderer, dash_style, mark, place.index, choice)
+    match renderer {
+        Renderer::Ascii => place_glyph(drawn, ascii::glyph(choice, dash_style, mark)),
+        Renderer::AsciiLarge => place_glyph(
+            drawn,
+            ascii_large::glyph(choice, dash_style, mark, place.index),
+        ),
+        Renderer::Square | Renderer::Curved | Renderer::Dec => {
+            box_drawing::place_choice(drawn, table, choice, dash_style, mark)
+        }
+    }
+}
+
+// Draws the cells of a line where there is room for any line, and gives the count of their bytes.
+pub fn draw_cells(
+    drawn: &mut [u8],
+    table: &[u8; TABLE],
+    renderer: Renderer,
+    row: Row,
+    mark: u8,
+    line: Line,
+    cells: [Cell; COLUMN_LIMIT],
+    width: usize,
+) -> usize
+    ensures { λ r. ⌜ Draw (cellsText (entry (now (table .entry))) renderer row mark (take width cells) line) (now (drawn .entry)) (now (drawn .exit)) r ⌝ }
+{
+    if drawn.len() < DRAWN {
+        return 0;
+    }
+    let count = cell_count(cells, width);
+    let mut at: usize = 0;
+    let mut i: usize = 0;
+    while i < count {
+        let cell = cells[i];
+        let k = next_index(i);
+        let after = cells[k];
+        let next = next_link(after, i, count);
+        let place = Place {
+            index: i,
+            cell,
+            next,
+        };
+        at += place_cell(&mut drawn[at..], table, renderer, row, mark, line, place);
+        i += 1;
+    }
+    at
 }

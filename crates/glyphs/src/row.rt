@@ -63,7 +63,7 @@ fn any_horizontal(cells: [Cell; COLUMN_LIMIT], width: usize) -> bool
 }
 
 // How many cells a shape of this width has: no more than there is room for.
-fn cell_count(cells: [Cell; COLUMN_LIMIT], width: usize) -> usize
+pub(crate) fn cell_count(cells: [Cell; COLUMN_LIMIT], width: usize) -> usize
     ensures { λ r. ⌜ (r ≤ columnLimit) × (take r cells ≡ take width cells) ⌝ }
 {
     if width < COLUMN_LIMIT {

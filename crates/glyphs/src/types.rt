@@ -1,7 +1,7 @@
 // What the renderers look at and what they give each cell, after types.rs.
 ghost use mathlib.Core.Path.{_≡_};
-ghost use mathlib.Core.List.{[], _∷_};
-ghost use Prim.Native.Nat.{min};
+ghost use mathlib.Core.List.{[], _∷_, _++_};
+ghost use Prim.Native.Nat.{_+_, _≤_};
 ghost use lib.ListN.{length, take};
 ghost use Rattle.glyphs.specs.Inner.{Holds};
 ghost use Rattle.glyphs.specs.Joins.{over};
@@ -99,29 +99,33 @@ impl Glyph {
     }
 }
 
-// The lesser of two counts.
-fn least(a: usize, b: usize) -> usize
-    ensures { λ r. ⌜ r ≡ min a b ⌝ }
-{
-    if a < b {
-        return a;
-    }
-    b
-}
+// The room of a drawn line: 64 cells of at most eight bytes, and eight more, as each cell is written by its eight places.
+pub const DRAWN: usize = 520;
 
-// Writes a glyph's bytes, at most so many of them and as many as there is room for, and gives their count.
-pub fn write_glyph(out: &mut [u8], glyph: Glyph, most: usize) -> usize
-    ensures { λ r. ⌜ (r ≡ min (min (glyph .length) 8) (min most (length (now (out .entry)))))
-        × (now (out .exit) ≡ over (take r (glyph .bytes)) (now (out .entry))) ⌝ }
+// Writes bytes at the start of an output that has room for them.
+pub fn copy_bytes(out: &mut [u8], bytes: &[u8])
+    ensures { λ r. ⌜ (length (now (bytes .entry)) ≤ length (now (out .entry)) → now (out .exit) ≡ over (now (bytes .entry)) (now (out .entry))) ⌝ }
 {
-    let bytes = glyph.bytes;
-    let room = least(most, out.len());
-    let whole = least(glyph.length, 8);
-    let count = least(whole, room);
+    if out.len() < bytes.len() {
+        return;
+    }
     let mut i: usize = 0;
-    while i < count {
+    while i < bytes.len() {
         out[i] = bytes[i];
         i += 1;
     }
-    count
+}
+
+// Writes a glyph's eight places at the start of the unwritten part of a line, and gives the count of its bytes.
+pub(crate) fn place_glyph(drawn: &mut [u8], glyph: Glyph) -> usize
+    requires { ⌜ 8 ≤ length (now drawn) ⌝ }
+    ensures { λ r. ⌜ (r ≡ glyph .length) × (now (drawn .exit) ≡ over (glyph .bytes) (now (drawn .entry))) ⌝ }
+{
+    let bytes = glyph.bytes;
+    let mut i: usize = 0;
+    while i < 8 {
+        drawn[i] = bytes[i];
+        i += 1;
+    }
+    glyph.length
 }

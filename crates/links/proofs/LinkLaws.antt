@@ -1,22 +1,24 @@
 -- Laws of the definitions in specs/Links.antt: how far the entries' columns reach.
-use Prim.Native.Nat.{ℕ, suc, _+_, _≤_, _<_, min, max}
+use Prim.Native.Nat.{ℕ, zero, suc, _+_, _≤_, _<_, min, max}
 use mathlib.Core.Path.{_≡_, refl, ap, _∙_, sym}
-use mathlib.Core.Bool.{Bool, true, false, not}
+use mathlib.Core.Bool.{Bool, true, false, cond, not, _&&_}
+use borrow.Author.Tests.{eqb-true}
 use mathlib.Core.List.{List, [], _∷_}
 use native.Mathlib.Numerals.{add-one}
 use native.Mathlib.Omega.{arith}
-use lib.ListN.{length, getD, drop, drop-of-length-le}
+use lib.ListN.{length, getD, drop, set, length-map, drop-of-length-le}
 use lib.Seq.{drop-cons}
-use lib.Dec.{ltb}
+use lib.Dec.{ltb, eqb}
 use Rattle.render.specs.Entries.{isDirect}
 use Rattle.column.proofs.Front.{length-front, front-getD}
 use Rattle.links.specs.declared.Met.{Met}
-use Rattle.links.specs.declared.Met.the-variants.{Nobody}
+use Rattle.links.specs.declared.Met.the-variants.{Nobody, By}
 use Rattle.links.specs.declared.Swap.{Swap}
-use Rattle.links.specs.declared.ParentColumn.{ParentColumn}
 use Rattle.links.specs.declared.AncestorColumnBounds.{AncestorColumnBounds}
 use Rattle.links.specs.Links.{met, isMet, foundAs, isAt, leftmost, rightmost, boundsOf, marksAt}
-use Rattle.links.specs.Inner.{reaching, mets, fromNode}
+use Rattle.links.specs.Inner.{ParentColumn, drawnBy, metIn, parentIn, parentsIn, reaching, mets, fromNode, passing}
+use Rattle.column.specs.declared.Column.{Column}
+use Rattle.column.specs.Codes.{columnIn}
 
 -- a column that nobody met
 abbrev pub nobody : ParentColumn
@@ -24,6 +26,10 @@ nobody = record { met = Nobody }
 
 abbrev pub metOf : ParentColumn → Met
 metOf p = p .met
+
+pub met-zero : metIn 0 ≡ Nobody
+unfolding metIn columnIn
+met-zero = refl
 
 min-assoc : (x y z : ℕ) → min (min x y) z ≡ min x (min y z)
 min-assoc x y z = omega arith
@@ -52,6 +58,10 @@ closed b ms i =
 
 closed-turn : (b : AncestorColumnBounds) (m : Met) (ms : List Met) (i : ℕ) → closed (reaching b i m) ms (suc i) ≡ closed b (m ∷ ms) i
 closed-turn b m ms i = simp (min-assoc, max-assoc)
+
+passed-by : (b : AncestorColumnBounds) (ms : List Met) (i : ℕ) → closed b (Nobody ∷ ms) i ≡ closed b ms (suc i)
+passed-by b ms i =
+    rw (leftmost-within isMet ms (suc i) (b .target), leftmost-within (met isDirect) ms (suc i) (b .target), rightmost-within (met isDirect) ms (suc i) (b .target), rightmost-within isMet ms (suc i) (b .target))
 
 -- what the walk over the parents' columns keeps: b is the bounds once i columns are walked
 pub record Bounding (ms : List Met) (target i : ℕ) (b : AncestorColumnBounds) : Type 0 where
@@ -93,6 +103,32 @@ module _ (ms : List Met) (target : ℕ) where
         rest = rw add-one (closed-turn b m (drop (suc i) ms) i ∙ ap (λ (l : List Met). closed b l i) (sym d) ∙ g .rest);
       })
 
+  -- a column that nobody met
+  bounding-skip : (i : ℕ) (b : AncestorColumnBounds) → i < length ms → getD ms i Nobody ≡ Nobody → Bounding ms target i b → Bounding ms target (i + 1) b
+  bounding-skip i b h e g =
+      let d : drop i ms ≡ Nobody ∷ drop (suc i) ms = drop-cons ms i Nobody h ∙ rw e in
+      record {
+        node = g .node;
+        left = g .left;
+        left-direct = g .left-direct;
+        right-direct = g .right-direct;
+        right = g .right;
+        rest =
+            rw (add-one i)
+            (sym (passed-by b (drop (suc i) ms) i)
+            ∙ ap (λ (l : List Met). closed b l i) (sym d)
+            ∙ g .rest);
+      }
+
+  -- by the word of who draws
+  pub bounding-word : (i : ℕ) (b r : AncestorColumnBounds) (w : ℕ) → i < length ms → metIn w ≡ getD ms i Nobody → r ≡ cond (eqb w 0) b (reaching b i (metIn w))
+      → Bounding ms target i b → Bounding ms target (i + 1) r
+  bounding-word i b r w h e q g = go (eqb w 0) refl q
+    where
+      go : (t : Bool) → eqb w 0 ≡ t → r ≡ cond t b (reaching b i (metIn w)) → Bounding ms target (i + 1) r
+      go true z k = rw k (bounding-skip i b h (sym e ∙ ap metIn (eqb-true w 0 z) ∙ met-zero) g)
+      go false z k = bounding-next i b r (metIn w) h e k g
+
   pub bounding-end : (i : ℕ) (b : AncestorColumnBounds) → length ms ≤ i → Bounding ms target i b → b ≡ boundsOf ms target
   bounding-end i b h g =
       let e : closed b [] i ≡ boundsOf ms target = rw (drop-of-length-le ms {i = i} h) at (g .rest) in
@@ -113,16 +149,49 @@ module _ (ms : List Met) (target : ℕ) where
       whole : b ≡ closed b [] i
       whole = rw (← l, ← ld, ← rd, ← r)
 
--- the columns of an array
-module _ (n : ℕ) (l : List ParentColumn) (i : ℕ) where
-  pub mets-at : i < n → i < length l → getD (mets n l) i Nobody ≡ (getD l i nobody) .met
-  mets-at = front-getD metOf n l i nobody Nobody
+-- ---- who draws, by words
+pub met-drawn : (w : ℕ) (c : Column) → c ≡ columnIn w → drawnBy c ≡ metIn w
+unfolding metIn
+met-drawn w c e = ap drawnBy e
 
-  pub mets-below : i < n → i < length l → i < length (mets n l)
-  mets-below h k = rw length-front (omega arith)
+pub met-parent : (w : ℕ) → (parentIn w) .met ≡ metIn w
+unfolding parentIn
+met-parent w = refl
 
-  pub mets-past : min n (length l) ≤ i → length (mets n l) ≤ i
-  mets-past h = rw length-front h
+pub parent-of : (w : ℕ) (c : Column) → columnIn w ≡ c → parentIn w ≡ record { met = drawnBy c }
+unfolding parentIn metIn
+parent-of w c e = rw e
+
+pub parent-zero : parentIn 0 ≡ nobody
+unfolding parentIn metIn columnIn
+parent-zero = refl
+
+pub length-parents : (l : List ℕ) → length (parentsIn l) ≡ length l
+length-parents l = length-map l parentIn
+
+pub getD-parents : (l : List ℕ) (i : ℕ) → getD (parentsIn l) i nobody ≡ parentIn (getD l i 0)
+unfolding parentIn metIn columnIn
+getD-parents [] i = refl
+getD-parents (w ∷ l) zero = refl
+getD-parents (w ∷ l) (suc i) = getD-parents l i
+
+pub set-parents : (l : List ℕ) (i w : ℕ) → parentsIn (set l i w) ≡ set (parentsIn l) i (parentIn w)
+set-parents [] i w = refl
+set-parents (v ∷ l) zero w = refl
+set-parents (v ∷ l) (suc i) w = ap (λ (r : List ParentColumn). parentIn v ∷ r) (set-parents l i w)
+
+pub getD-met : (l : List ℕ) (i : ℕ) → (getD (parentsIn l) i nobody) .met ≡ metIn (getD l i 0)
+getD-met l i = ap (λ (p : ParentColumn). p .met) (getD-parents l i) ∙ met-parent (getD l i 0)
+
+module _ (n : ℕ) (l : List ℕ) (i : ℕ) where
+  pub mets-at : i < n → i < length l → getD (mets n (parentsIn l)) i Nobody ≡ metIn (getD l i 0)
+  mets-at h k = front-getD metOf n (parentsIn l) i nobody Nobody h (rw length-parents k) ∙ getD-met l i
+
+  pub mets-below : i < n → i < length l → i < length (mets n (parentsIn l))
+  mets-below h k = rw (length-front, length-parents) (omega arith)
+
+  pub mets-past : min n (length l) ≤ i → length (mets n (parentsIn l)) ≤ i
+  mets-past h = rw (length-front, length-parents) h
 
 -- the marks of a cell, from what the functions found
 pub marks-done : (b : AncestorColumnBounds) (w : Swap) (i : ℕ) (m : Met) (swapped gone ahead drawn direct indirect : Bool)
@@ -130,3 +199,12 @@ pub marks-done : (b : AncestorColumnBounds) (w : Swap) (i : ℕ) (m : Met) (swap
     → drawn ≡ isMet m → direct ≡ met isDirect m → indirect ≡ met (λ e. not (isDirect e)) m
     → marksAt b i swapped (w .«was_direct») gone ahead drawn direct indirect false false ≡ fromNode b w i m
 marks-done b w i m swapped gone ahead drawn direct indirect p q r e f g = cc
+
+none : (b : Bool) → (b && false) ≡ false
+none true = refl
+none false = refl
+
+-- a cell in which nothing of the row ends
+pub passing-is : (b : AncestorColumnBounds) (w : Swap) (i : ℕ) (m : Met) → eqb i (b .target) ≡ false → isMet m ≡ false → isAt (w .«given_up») i ≡ false → passing b w i ≡ fromNode b w i m
+passing-is b w i Nobody h e g = rw (h, g, none (ltb (b .target) i), none (ltb i (b .target)))
+passing-is b w i (By a) h e g = let z : _≡_ {A = ℕ} 0 1 = cc in absurd (omega arith)

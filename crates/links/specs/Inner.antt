@@ -1,6 +1,7 @@
 -- What the inner functions give for a link line, on arrays and counts: steps on the way to the definitions of Links.
 use Prim.Native.Nat.{ℕ, min, max}
 use mathlib.Core.Bool.{false, Bool, cond, not, _&&_, _||_}
+use lib.Dec.{ltb}
 use mathlib.Core.List.{List, map}
 use lib.ListN.{take}
 use Rattle.column.specs.declared.Column.{Column}
@@ -9,9 +10,12 @@ use Rattle.render.specs.declared.render.Marks.{Marks}
 use Rattle.render.specs.Entries.{isDirect}
 use Rattle.links.specs.declared.Met.{Met}
 use Rattle.links.specs.declared.AncestorColumnBounds.{AncestorColumnBounds}
-use Rattle.links.specs.declared.ParentColumn.{ParentColumn}
+use Rattle.links.specs.declared.Met.the-variants.{Nobody, By}
+use Rattle.render.specs.declared.render.Ancestor.the-variants.{Ancestor as Indirect, Parent as Direct, Anonymous}
+use Rattle.column.specs.declared.Column.the-variants.{Empty, Blocked, Reserved, Ancestor, Parent}
+use Rattle.column.specs.Codes.{columnIn}
 use Rattle.links.specs.declared.Swap.{Swap}
-use Rattle.links.specs.Links.{isMet, met, marksOf}
+use Rattle.links.specs.Links.{isMet, met, foundAs, marksOf}
 
 -- the bounds with one more column
 abbrev pub reaching : AncestorColumnBounds → ℕ → Met → AncestorColumnBounds
@@ -25,6 +29,28 @@ reaching b i m =
       «max_ancestor» = max (b .«max_ancestor») (cond (isMet m) i c);
     }
 
+-- one column of the parents' columns
+pub record ParentColumn : Type 0 where
+  pub met : Met
+
+-- the entry that merges as a column
+abbrev pub drawnBy : Column → Met
+drawnBy Empty = Nobody
+drawnBy Blocked = By Anonymous
+drawnBy (Reserved n) = By (Direct n)
+drawnBy (Ancestor n) = By (Indirect n)
+drawnBy (Parent n) = By (Direct n)
+
+-- who draws, by the word of that column
+unfoldable pub metIn : ℕ → Met
+metIn w = drawnBy (columnIn w)
+
+unfoldable pub parentIn : ℕ → ParentColumn
+parentIn w = record { met = metIn w }
+
+abbrev pub parentsIn : List ℕ → List ParentColumn
+parentsIn l = map parentIn l
+
 -- who draws in each of the first n columns of an array
 abbrev pub mets : ℕ → List ParentColumn → List Met
 mets n l = map (λ (p : ParentColumn). p .met) (take n l)
@@ -32,6 +58,28 @@ mets n l = map (λ (p : ParentColumn). p .met) (take n l)
 -- the marks that come from the node (`link_line_from_node`)
 abbrev pub fromNode : AncestorColumnBounds → Swap → ℕ → Met → Marks
 fromNode b w i m = marksOf b w i m false false
+
+-- the same in a cell in which nothing of the row ends: the strokes that pass it (`horizontal_line`)
+abbrev pub passing : AncestorColumnBounds → Swap → ℕ → Marks
+passing b w i =
+    let inner : Bool = ltb (b .«min_parent») i && ltb i (b .«max_parent») in
+    let outer : Bool = ltb (b .«min_ancestor») i && ltb i (b .«max_ancestor») in
+    let bar : Bool = ltb (b .target) i && foundAs (ltb i) (w .«given_up») in
+    record {
+      «horiz_parent» = inner || (bar && w .«was_direct»);
+      «horiz_ancestor» = (not inner && outer) || (bar && not (w .«was_direct»));
+      «vert_parent» = false;
+      «vert_ancestor» = false;
+      «left_fork_parent» = false;
+      «left_fork_ancestor» = false;
+      «right_fork_parent» = false;
+      «right_fork_ancestor» = false;
+      «left_merge_parent» = false;
+      «left_merge_ancestor» = false;
+      «right_merge_parent» = false;
+      «right_merge_ancestor» = false;
+      child = false;
+    }
 
 -- those, with the line of the column before the entries where it was not given up
 abbrev pub withUprights : Bool → Column → Marks → Marks

@@ -2,11 +2,10 @@
 ghost use mathlib.Core.Path.{_≡_};
 ghost use mathlib.Core.Bool.{true, cond, not};
 ghost use Prim.Native.Nat.{min, max};
-ghost use lib.Dec.{ltb};
+ghost use lib.Dec.{ltb, eqb};
 ghost use Rattle.render.specs.Entries.{isDirect, isAnonymous};
 ghost use Rattle.links.specs.Links.{met as metAs, isMet, foundAs, isAt, linked, boundsOf};
-ghost use Rattle.links.specs.Inner.{reaching as reachingOf, mets, fromNode, withUprights};
-use column::COLUMN_LIMIT;
+ghost use Rattle.links.specs.Inner.{reaching as reachingOf, metIn, parentsIn, mets, fromNode, passing as passingIn, withUprights};
 use column::Column;
 use column::Found;
 use render::Ancestor;
@@ -16,11 +15,6 @@ use render::Marks;
 pub enum Met {
     Nobody,
     By(Ancestor),
-}
-
-// One column of the parents' columns, which are walked upward (the `BTreeMap` of parents).
-pub struct ParentColumn {
-    pub met: Met,
 }
 
 // How far the entries' columns reach from the node's.
@@ -80,6 +74,20 @@ impl Met {
     }
 }
 
+// Who draws, where a word holds the column that the entry merges as; an Empty one is nobody's.
+pub fn met_of(code: u64) -> Met
+    ensures { λ r. ⌜ r ≡ metIn code ⌝ }
+{
+    let column = column::column_of(code);
+    match column {
+        Column::Empty => Met::Nobody,
+        Column::Blocked => Met::By(Ancestor::Anonymous),
+        Column::Reserved(id) => Met::By(Ancestor::Parent(id)),
+        Column::Ancestor(id) => Met::By(Ancestor::Ancestor(id)),
+        Column::Parent(id) => Met::By(Ancestor::Parent(id)),
+    }
+}
+
 // One of two numbers.
 fn pick(first: bool, a: usize, b: usize) -> usize
     ensures { λ r. ⌜ r ≡ cond first a b ⌝ }
@@ -116,15 +124,21 @@ impl AncestorColumnBounds {
         }
     }
 
-    // The bounds of the parents' columns, the first `width` ones.
-    pub fn new(
-        columns: [ParentColumn; COLUMN_LIMIT],
-        width: usize,
-        target: usize,
-    ) -> AncestorColumnBounds
-        ensures { λ r. ⌜ r ≡ boundsOf (mets width columns) target ⌝ }
+    // The same by the word of who draws, if anyone does.
+    fn reaching_word(self, index: usize, code: u64) -> AncestorColumnBounds
+        ensures { λ r. ⌜ r ≡ cond (eqb code 0) self (reachingOf self index (metIn code)) ⌝ }
     {
-        let n = column::live_count(width);
+        if code == 0 {
+            return self;
+        }
+        self.reaching(index, met_of(code))
+    }
+
+    // The bounds of the parents' columns, the first `width` ones, which are walked upward (the `BTreeMap` of parents).
+    pub fn new(parents: &[u64], width: usize, target: usize) -> AncestorColumnBounds
+        ensures { λ r. ⌜ r ≡ boundsOf (mets width (parentsIn (now (parents .entry)))) target ⌝ }
+    {
+        let n = column::live_words(parents, width);
         let mut bounds = AncestorColumnBounds {
             target,
             min_ancestor: target,
@@ -134,9 +148,7 @@ impl AncestorColumnBounds {
         };
         let mut i: usize = 0;
         while i < n {
-            let column = columns[i];
-            let met = column.met;
-            bounds = bounds.reaching(i, met);
+            bounds = bounds.reaching_word(i, parents[i]);
             i += 1;
         }
         bounds
@@ -212,6 +224,32 @@ pub fn from_node(bounds: AncestorColumnBounds, swap: Swap, index: usize, met: Me
         right_merge_parent: here & right,
         right_merge_ancestor: here & (!right & (target < bounds.max_ancestor)),
         child: here & met.is_met(),
+    }
+}
+
+// Those marks in a cell in which nothing of the row ends: a horizontal stroke that passes, or none (`horizontal_line`).
+pub fn passing(bounds: AncestorColumnBounds, swap: Swap, index: usize) -> Marks
+    ensures { λ r. ⌜ r ≡ passingIn bounds swap index ⌝ }
+{
+    let given_up = swap.given_up;
+    let solid = swap.was_direct;
+    let inner = (bounds.min_parent < index) & (index < bounds.max_parent);
+    let outer = (bounds.min_ancestor < index) & (index < bounds.max_ancestor);
+    let bar = (bounds.target < index) & is_before(index, given_up);
+    Marks {
+        horiz_parent: inner | (bar & solid),
+        horiz_ancestor: (!inner & outer) | (bar & !solid),
+        vert_parent: false,
+        vert_ancestor: false,
+        left_fork_parent: false,
+        left_fork_ancestor: false,
+        right_fork_parent: false,
+        right_fork_ancestor: false,
+        left_merge_parent: false,
+        left_merge_ancestor: false,
+        right_merge_parent: false,
+        right_merge_ancestor: false,
+        child: false,
     }
 }
 

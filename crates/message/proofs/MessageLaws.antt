@@ -1,6 +1,6 @@
 -- Laws of lines and of blanks at a line's end, for any bytes.
 use mathlib.Core.Path.{_≡_, refl, sym, ap, _∙_}
-use mathlib.Core.Bool.{Bool, true, false, cond}
+use mathlib.Core.Bool.{Bool, true, false, cond, _&&_}
 use mathlib.Core.List.{List, [], _∷_, _++_}
 use Prim.Native.Nat.{ℕ, zero, suc, _+_, _-_, _<_, _≤_, min}
 use native.Mathlib.Nat.{not-suc-le-zero}
@@ -10,6 +10,8 @@ use lib.Dec.{eqb, ltb, lit≤}
 use lib.ListN.{length, take, drop, getD, drop-of-length-le, length-append, length-drop, length-take}
 use lib.Seq.{drop-cons, take-suc, length-take-le, drop-drop}
 use borrow.Author.Tests.{eq-eqb, ne-eqb, ltb-true, ltb-false}
+use Rattle.glyphs.specs.Characters.{newline}
+use Rattle.message.specs.Inner.{ends}
 use Rattle.message.specs.Message.{allOf, onto, linesOf, lineLength, firstLine, otherLines, trimEnd, keepLast}
 
 abbrev First-apart : List ℕ → Type 0
@@ -25,16 +27,73 @@ lines-next (x ∷ xs) h = by-case x xs (eqb x 0x0a) refl (lines-next xs)
     by-case x [] false e r = rw e refl
     by-case x (y ∷ ys) false e r = rw (e, r (omega arith)) refl
 
--- ---- a search for a byte that fails a test
-module _ (t : ℕ → Bool) (s : List ℕ) (i : ℕ) (e : allOf t s ≡ allOf t (drop i s)) where
-  pub all-miss : {x : Bool} → i < length s → x ≡ t (getD s i 0) → x ≡ false → false ≡ allOf t s
-  all-miss h f g = sym (e ∙ rw (drop-cons s i 0, ← f, g) refl)
+-- ---- whether each byte passes a test: a says it of the first i
+module _ (t : ℕ → Bool) (s : List ℕ) (i : ℕ) (a : Bool) (e : allOf t s ≡ (a && allOf t (drop i s))) where
+  and-assoc : (a b c : Bool) → (a && (b && c)) ≡ ((a && b) && c)
+  and-assoc true b c = refl
+  and-assoc false b c = refl
 
-  pub all-next : {x : Bool} → i < length s → x ≡ t (getD s i 0) → x ≡ true → allOf t s ≡ allOf t (drop (i + 1) s)
-  all-next h f g = e ∙ rw (drop-cons s i 0, ← f, g, add-one i) refl
+  and-true : (a : Bool) → (a && true) ≡ a
+  and-true true = refl
+  and-true false = refl
 
-  pub all-done : length s ≤ i → true ≡ allOf t s
-  all-done h = sym (e ∙ rw (drop-of-length-le s h) refl)
+  pub all-next : (x : Bool) → i < length s → x ≡ t (getD s i 0) → allOf t s ≡ ((a && x) && allOf t (drop (i + 1) s))
+  all-next x h f = e ∙ rw (drop-cons s i 0 h, ← f, add-one i) (and-assoc a x (allOf t (drop (suc i) s)))
+
+  pub all-done : length s ≤ i → a ≡ allOf t s
+  all-done h = sym (e ∙ rw (drop-of-length-le s {i = i} h) (and-true a))
+
+-- ---- the count of lines
+pub ends-next : (s : List ℕ) (i x : ℕ) → i < length s → x ≡ cond (eqb (getD s i 0) newline) 1 0 → ends (drop i s) ≡ x + ends (drop (i + 1) s)
+ends-next s i x h e = rw (add-one i, drop-cons s i 0 h, ← e)
+
+pub ends-none : (s : List ℕ) (i : ℕ) → length s ≤ i → ends (drop i s) ≡ 0
+ends-none s i h = rw (drop-of-length-le s {i = i} h)
+
+onto-long : (b : ℕ) (l : List (List ℕ)) → 0 < length l → length (onto b l) ≡ length l
+onto-long b [] h = absurd (not-suc-le-zero h)
+onto-long b (x ∷ l) h = refl
+
+-- 1 where the last byte ends no line
+abbrev unended : List ℕ → ℕ
+unended m = cond (eqb (getD m (length m - 1) 0) newline) 0 1
+
+lines-counted : (m : List ℕ) → 0 < length m → length (linesOf m) ≡ ends m + unended m
+lines-counted [] h = absurd (not-suc-le-zero h)
+lines-counted (x ∷ []) h = by-test (eqb x newline) refl
+  where
+    by-test : (b : Bool) → eqb x newline ≡ b → length (linesOf (x ∷ [])) ≡ ends (x ∷ []) + unended (x ∷ [])
+    by-test true e = rw e
+    by-test false e = rw e
+lines-counted (x ∷ y ∷ ys) h = by-test (eqb x newline) refl (lines-counted (y ∷ ys) (omega arith))
+  where
+    same : unended (x ∷ y ∷ ys) ≡ unended (y ∷ ys)
+    same = let k : length (x ∷ y ∷ ys) - 1 ≡ suc (length (y ∷ ys) - 1) = omega arith in rw k
+
+    some : 0 < length (linesOf (y ∷ ys))
+    some = rw (lines-next (y ∷ ys) (omega arith)) (omega arith)
+
+    by-test : (b : Bool) → eqb x newline ≡ b → length (linesOf (y ∷ ys)) ≡ ends (y ∷ ys) + unended (y ∷ ys) → length (linesOf (x ∷ y ∷ ys)) ≡ ends (x ∷ y ∷ ys) + unended (x ∷ y ∷ ys)
+    by-test true e r = rw (e, same) (omega (arith, r))
+    by-test false e r = rw (e, same, onto-long x (linesOf (y ∷ ys)) some) (omega (arith, r))
+
+module _ (m : List ℕ) (n k : ℕ) (e : k ≡ ends m) (l : n ≡ length m) where
+  pub count-none : n ≡ 0 → 0 ≡ length (linesOf m)
+  count-none h = go m (sym l ∙ h)
+    where
+      go : (m : List ℕ) → length m ≡ 0 → 0 ≡ length (linesOf m)
+      go [] h = refl
+      go (x ∷ xs) h = absurd (omega (arith, h))
+
+  pub count-ended : 0 < n → getD m (n - 1) 0 ≡ newline → k ≡ length (linesOf m)
+  count-ended h q =
+      let w : unended m ≡ 0 = rw (← l, eq-eqb (getD m (n - 1) 0) newline q) in
+      omega (arith, lines-counted m (rw (← l) h), w)
+
+  pub count-open : 0 < n → (getD m (n - 1) 0 ≡ newline → ⊥) → k + 1 ≡ length (linesOf m)
+  count-open h q =
+      let w : unended m ≡ 1 = rw (← l, ne-eqb (getD m (n - 1) 0) newline q) in
+      omega (arith, lines-counted m (rw (← l) h), w)
 
 -- ---- a search for the line's end
 module _ (s : List ℕ) (e : ℕ) where
@@ -75,18 +134,6 @@ drop-capped s k = go (ltb k (length s)) refl
         let h : length s ≤ k = ltb-false k (length s) e in
         let m : length s ≤ min k (length s) = omega arith in
         drop-of-length-le s m ∙ sym (drop-of-length-le s h)
-
--- no line is left
-pub none-left : (s : List ℕ) (a : ℕ) → length s ≤ a → length (linesOf (drop a s)) ≡ 0
-none-left s a h = rw (drop-of-length-le s h) refl
-
--- one line more was counted
-pub count-next : (s : List ℕ) (a n e : ℕ) → a < length s → e ≡ a + lineLength (drop a s) → n ≡ min (suc e) (length s)
-    → length (linesOf (drop a s)) ≡ suc (length (linesOf (drop n s)))
-count-next s a n e h q d =
-    let p : 0 < length (drop a s) = rw (length-drop a s) (omega arith) in
-    ap length (lines-next (drop a s) p)
-    ∙ ap (λ (l : List ℕ). suc (length (linesOf l))) (behind s a ∙ ap (λ (k : ℕ). drop (suc k) s) (sym q) ∙ sym (ap (λ (k : ℕ). drop k s) d ∙ drop-capped s (suc e)))
 
 -- ---- blanks at the end
 

@@ -1,7 +1,11 @@
 // A message: its bytes, its lines (pad.rs and the `lines` that it pads), and blanks at the end of a line.
 ghost use mathlib.Core.Path.{_≡_};
-ghost use Prim.Native.Nat.{suc, _+_, min};
+ghost use Prim.Native.Nat.{suc, _+_, _≤_, min};
 ghost use lib.ListN.{length, take, drop};
+ghost use mathlib.Core.Bool.{cond};
+ghost use lib.Dec.{eqb};
+ghost use Rattle.glyphs.specs.Characters.{newline};
+ghost use Rattle.message.specs.Inner.{ends};
 ghost use Rattle.message.specs.Message.{isWritable, allOf, linesOf, lineLength, trimEnd};
 
 // The greatest length of a message.
@@ -18,14 +22,13 @@ fn is_writable(byte: u8) -> bool
 pub fn are_writable(message: &[u8]) -> bool
     ensures { λ r. ⌜ r ≡ allOf isWritable (now (message .entry)) ⌝ }
 {
+    let mut all = true;
     let mut i: usize = 0;
     while i < message.len() {
-        if !is_writable(message[i]) {
-            return false;
-        }
+        all = all & is_writable(message[i]);
         i += 1;
     }
-    true
+    all
 }
 
 // Where the line from `start` on ends: at the next 0A, or where the message ends.
@@ -52,18 +55,39 @@ pub fn next_start(message: &[u8], end: usize) -> usize
     message.len()
 }
 
-// How many lines a message has.
+// 1 for a line's end.
+fn ended_by(byte: u8) -> usize
+    ensures { λ r. ⌜ (r ≡ cond (eqb byte newline) 1 0) × (r ≤ 1) ⌝ }
+{
+    if byte == 0x0a { 1 } else { 0 }
+}
+
+// How many of a message's lines are ended.
+fn line_ends(message: &[u8]) -> usize
+    ensures { λ r. ⌜ (r ≡ ends (now (message .entry))) × (r ≤ length (now (message .entry))) ⌝ }
+{
+    let mut count: usize = 0;
+    let mut i: usize = 0;
+    while i < message.len() {
+        count += ended_by(message[i]);
+        i += 1;
+    }
+    count
+}
+
+// How many lines a message has: those that are ended, and one more unless the last byte ends one.
 pub fn line_count(message: &[u8]) -> usize
     ensures { λ r. ⌜ r ≡ length (linesOf (now (message .entry))) ⌝ }
 {
-    let mut count: usize = 0;
-    let mut start: usize = 0;
-    while start < message.len() {
-        count += 1;
-        let end = line_end(message, start);
-        start = next_start(message, end);
+    let count = line_ends(message);
+    let n = message.len();
+    if n == 0 {
+        return 0;
     }
-    count
+    if message[n - 1] == 0x0a {
+        return count;
+    }
+    count + 1
 }
 
 // The length of a line without the blanks at its end (`trim_end`).

@@ -1,5 +1,5 @@
 -- Laws of the definitions in specs/Placing.antt, worded for the functions over arrays: opening the node's column, and the walk over the entries.
-use Prim.Native.Nat.{ℕ, suc, _+_, _≤_, _<_, min, max}
+use Prim.Native.Nat.{ℕ, zero, suc, _+_, _≤_, _<_, min, max}
 use mathlib.Core.Path.{_≡_, refl, ap, _∙_, sym}
 use mathlib.Core.Bool.{Bool, true, false, cond, not, _||_}
 use mathlib.Core.List.{List, [], _∷_, map}
@@ -11,25 +11,26 @@ use lib.Seq.{drop-cons, set-out, take-set-le, getD-set-same, getD-set-other}
 use borrow.Author.Tests.{ltb-true, ltb-false, leb-false, eqb-true, eqb-false}
 use Rattle.column.specs.declared.Column.{Column}
 use Rattle.column.specs.declared.Column.the-variants.{Empty, Blocked}
-use Rattle.column.specs.declared.Columns.{Columns}
 use Rattle.column.specs.declared.Found.{Found}
 use Rattle.column.specs.declared.Found.the-variants.{At, Nothing}
 use Rattle.column.specs.declared.Slot.{Slot}
-use Rattle.column.specs.Columns.{columnLimit, isEmpty, isParent, first, findEmpty, orElse, merge, at, put, live, emptySlot, columnAt, SpareEmpty}
+use Rattle.column.specs.Columns.{columnLimit, isEmpty, isParent, first, findEmpty, orElse, merge, at, put, live, emptySlot, columnAt}
 use Rattle.column.proofs.Front.{length-front, front-getD, front-clamp}
-use Rattle.column.proofs.Laws.{columnOf as slotColumn, first-below, live-put, spare-put}
-use Rattle.column.proofs.Positions.{length-put, put-skip, at-live, clear-keeps}
+use Rattle.column.proofs.Laws.{columnOf as slotColumn, first-below, live-put}
+use Rattle.column.proofs.Positions.{length-put, put-skip, at-live}
 use Rattle.render.specs.declared.render.Ancestor.{Ancestor as Entry}
 use Rattle.render.specs.declared.render.Entry.{Entry as Entry₁}
 use Rattle.render.specs.declared.render.Entries.{Entries}
 use Rattle.render.specs.Entries.{entryLimit, listed}
 use Rattle.render.specs.declared.render.Ancestor.the-variants.{Ancestor as Indirect, Parent as Direct, Anonymous}
 use Rattle.links.specs.declared.Met.the-variants.{Nobody, By}
-use Rattle.links.specs.declared.ParentColumn.{ParentColumn}
-use Rattle.placing.specs.declared.Walked.{Walked}
-use Rattle.placing.specs.declared.Settled.{Settled}
+use Rattle.links.specs.Inner.{ParentColumn, drawnBy, parentIn, parentsIn}
+use Rattle.links.proofs.LinkLaws.{parent-zero, length-parents, getD-parents, set-parents}
+use Rattle.column.specs.Codes.{slotIn, slotsIn}
+use Rattle.column.proofs.CodeLaws.{length-slots, getD-slots, set-slots, slot-zero}
+use Rattle.links.specs.declared.Swap.{Swap}
 use Rattle.placing.specs.Placing.{columnOf, heldBy, spot, enter, walk, metBy}
-use Rattle.placing.specs.Inner.{columnsOf, nobody, metAt, cleared, Opens, entered, lastSpot, Walks, swappedIn, settled}
+use Rattle.placing.specs.Inner.{Columns, columnsOf, nobody, metAt, Opens, entered, lastSpot, Went, Walks, Settled, swappedIn, settled}
 
 -- ---- the column of an entry
 module _ (c : ℕ) (e : Entry) (cs : List Column) where
@@ -119,24 +120,32 @@ module _ (count column : ℕ) (l : List Slot) (long : length l ≡ columnLimit) 
     at-column true q h k = one-past h (omega (arith, ltb-true (length (live count l)) column q))
     at-column false q h k = there h (ltb-false _ _ q)
 
-    still : SpareEmpty count l → (j : ℕ) → m ≤ j → (b : Bool) → ltb j count ≡ b → (getD (set beside column emptySlot) j emptySlot) .column ≡ Empty
-    still g j p false q = clear-keeps beside column j (clear-keeps l n j (g j (ltb-false _ _ q)))
-    still g j p true q =
-        let o : length l ≤ j = omega (arith, ltb-true j count q) in
-        clear-keeps beside column j (clear-keeps l n j (rw (List·getD-eq-default l emptySlot {n = j} o)))
-
     pub opened-done : Opens l count column (record { slots = set beside column emptySlot; count = m })
     opened-done =
         record {
           columns = at-column (ltb (length (live count l)) column) refl;
           long = length-set beside column emptySlot ∙ length-beside;
           fits = omega arith;
-          rest = λ g j p. still g j p (ltb j count) refl;
         }
 
-pub opened-made : (l beside out : List Slot) (count column n m : ℕ) → length l ≡ columnLimit → n ≡ min count columnLimit → beside ≡ cleared l n
-    → out ≡ cleared beside column → m ≡ min (max count (column + 1)) columnLimit → Opens l count column (record { slots = out; count = m })
+pub opened-made : (l beside out : List Slot) (count column n m : ℕ) → length l ≡ columnLimit → n ≡ min count columnLimit → beside ≡ set l n emptySlot
+    → out ≡ set beside column emptySlot → m ≡ min (max count (column + 1)) columnLimit → Opens l count column (record { slots = out; count = m })
 opened-made l beside out count column n m long a b d e = rw (d, b, a) (opened-done count column l long m e)
+
+-- the same of words
+pub opened-codes : (l l₁ l₂ : List ℕ) (count column n m : ℕ) → length l ≡ columnLimit → n ≡ min count (length l) → l₁ ≡ set l n 0 → l₂ ≡ set l₁ column 0
+    → m ≡ min (max count (column + 1)) columnLimit → Opens (slotsIn l) count column (record { slots = slotsIn l₂; count = m })
+opened-codes l l₁ l₂ count column n m long a b d e =
+    opened-made (slotsIn l) (slotsIn l₁) (slotsIn l₂) count column n m (length-slots l ∙ long) (rw long at a) (cleared l l₁ n b) (cleared l₁ l₂ column d) e
+  where
+    cleared : (x y : List ℕ) (i : ℕ) → y ≡ set x i 0 → slotsIn y ≡ set (slotsIn x) i emptySlot
+    cleared x y i h = ap slotsIn h ∙ set-slots x i 0 ∙ ap (λ (s : Slot). set (slotsIn x) i s) slot-zero
+
+-- who draws in a column, by the column that the entry merges as
+pub drawn-as : (e : Entry) → drawnBy (columnOf e) ≡ By e
+drawn-as (Indirect n) = refl
+drawn-as (Direct n) = refl
+drawn-as Anonymous = refl
 
 -- ---- the walk over the entries
 
@@ -167,7 +176,6 @@ pub record Going (bare : Columns) (c : ℕ) (es : List Entry) (i : ℕ) (slots :
   pub columns : walk c (drop i es) (live count slots) ≡ walk c es (columnsOf bare)
   pub met : (j : ℕ) → metBy j c (drop i es) (live count slots) (metAt parents j) ≡ metBy j c es (columnsOf bare) Nobody
   pub spot-left : lastSpot c (drop i es) (live count slots) last ≡ lastSpot c es (columnsOf bare) 0
-  pub rest : SpareEmpty (bare .count) (bare .slots) → SpareEmpty count slots
 
 module _ (bare : Columns) (c : ℕ) (es : List Entry) where
   pub going-start : (parents : List ParentColumn) → length (bare .slots) ≡ columnLimit → bare .count ≤ columnLimit → parents ≡ replicate columnLimit nobody
@@ -181,7 +189,6 @@ module _ (bare : Columns) (c : ℕ) (es : List Entry) where
         columns = refl;
         met = λ j. rw (p, met-none j);
         spot-left = refl;
-        rest = λ g. g;
       }
 
   module _ (i : ℕ) (slots : List Slot) (count : ℕ) (parents : List ParentColumn) (last : ℕ) (g : Going bare c es i slots count parents last)
@@ -223,7 +230,6 @@ module _ (bare : Columns) (c : ℕ) (es : List Entry) where
                 rw (add-one i, next, met-set parents index j e (rw (g .wide) h), k)
                 (ap (λ (t : List Entry). metBy j c t now (metAt parents j)) (sym d) ∙ g .met j);
             spot-left = rw (add-one i, next, k) (ap (λ (t : List Entry). lastSpot c t now last) (sym d) ∙ g .spot-left);
-            rest = λ p. spare-put count index m slots s a inside r (g .rest p);
           }
 
   module _ (i : ℕ) (slots : List Slot) (count : ℕ) (parents : List ParentColumn) (last : ℕ) (g : Going bare c es i slots count parents last) where
@@ -239,7 +245,6 @@ module _ (bare : Columns) (c : ℕ) (es : List Entry) where
           long = g .long;
           wide = g .wide;
           fitting = g .fits;
-          rest = g .rest;
         }
 
     pub walked-done : drop i es ≡ [] → Walks bare c es (record { fits = true; slots = slots; count = count; parents = parents; spot = last })
@@ -253,8 +258,20 @@ module _ (bare : Columns) (c : ℕ) (es : List Entry) where
           long = g .long;
           wide = g .wide;
           fitting = g .fits;
-          rest = g .rest;
         }
+
+-- the same of words
+pub going-code : (bare : Columns) (c : ℕ) (es : List Entry) (i : ℕ) (codes : List ℕ) (count : ℕ) (parents : List ℕ) (last : ℕ)
+    → Going bare c es i (slotsIn codes) count (parentsIn parents) last → (e : Entry) → drop i es ≡ e ∷ drop (suc i) es → (index : ℕ) → index ≡ spot c e (live count (slotsIn codes))
+    → index < columnLimit → (m : ℕ) → m ≡ min (max count (index + 1)) columnLimit → (w v : ℕ) → slotIn w ≡ entered (slotIn (getD codes index 0)) index count e
+    → parentIn v ≡ record { met = By e } → Going bare c es (i + 1) (slotsIn (set codes index w)) m (parentsIn (set parents index v)) index
+going-code bare c es i codes count parents last g e d index k h m q w v a b =
+    rw (set-slots codes index w, set-parents parents index v, b)
+    (going-next bare c es i (slotsIn codes) count (parentsIn parents) last g e d index k h m q (slotIn w) (rw (getD-slots codes index) a))
+
+pub parents-none : (n : ℕ) → parentsIn (replicate n 0) ≡ replicate n nobody
+parents-none zero = refl
+parents-none (suc n) = rw (parent-zero, parents-none n)
 
 -- the entries of an array
 abbrev pub given : ℕ → List Entry₁ → List Entry
@@ -277,14 +294,7 @@ entries-read n count l long e = front-clamp (λ (x : Entry₁). x .ancestor) n c
 columns-read : (n count : ℕ) (l : List Slot) → length l ≡ columnLimit → n ≡ min count columnLimit → live n l ≡ live count l
 columns-read n count l long e = front-clamp slotColumn n count l (rw long e)
 
-spare-read : (n count : ℕ) (l : List Slot) → length l ≡ columnLimit → n ≡ min count columnLimit → SpareEmpty count l → SpareEmpty n l
-spare-read n count l long e g j h = go (ltb j count) refl
-  where
-    go : (b : Bool) → ltb j count ≡ b → (getD l j emptySlot) .column ≡ Empty
-    go true q = rw (List·getD-eq-default l emptySlot {n = j} (omega (arith, ltb-true j count q)))
-    go false q = g j (ltb-false j count q)
-
-pub walks-read : (bare : Columns) (c : ℕ) (es : Entries) (count n : ℕ) (r : Walked) → length (bare .slots) ≡ columnLimit → length (es .list) ≡ entryLimit
+pub walks-read : (bare : Columns) (c : ℕ) (es : Entries) (count n : ℕ) (r : Went) → length (bare .slots) ≡ columnLimit → length (es .list) ≡ entryLimit
     → count ≡ min (bare .count) columnLimit → n ≡ min (es .count) entryLimit → Walks (record { slots = bare .slots; count = count }) c (given n (es .list)) r
     → Walks bare c (listed es) r
 walks-read bare c es count n r long wide e f p =
@@ -299,36 +309,40 @@ walks-read bare c es count n r long wide e f p =
       long = p .long;
       wide = p .wide;
       fitting = p .fitting;
-      rest = λ g. p .rest (spare-read count (bare .count) (bare .slots) long e g);
     }
 
 -- ---- the swap
-module _ (w : Walked) (bare : Columns) (c : ℕ) where
-  pub swapped-in : (old : Column) (direct : Bool) → old ≡ columnAt (getD (bare .slots) (w .spot) emptySlot) (w .spot) (bare .count) → direct ≡ isParent old
-      → record {
-        slots = set (set (w .slots) c (getD (w .slots) (w .spot) emptySlot)) (w .spot) (getD (w .slots) c emptySlot);
-        parents = set (set (w .parents) (w .spot) nobody) c (getD (w .parents) (w .spot) nobody);
-        swap = record { «given_up» = At (w .spot); «was_direct» = direct };
-      }
-      ≡ swappedIn w bare c
-  swapped-in old direct e f = rw (f, e)
-
+module _ (l : List Slot) (ps : List ParentColumn) (k : ℕ) (bare : Columns) (c : ℕ) where
   abbrev stays : Bool → Bool
-  stays single = not single || (leb (w .spot) c || leb columnLimit (w .spot))
+  stays single = not single || (leb k c || leb columnLimit k)
 
   pub settled-stays : (single : Bool) → stays single ≡ true
-      → record { slots = w .slots; parents = w .parents; swap = record { «given_up» = Nothing; «was_direct» = false } } ≡ settled w bare c single
+      → record { slots = l; parents = ps; swap = record { «given_up» = Nothing; «was_direct» = false } } ≡ settled l ps k bare c single
   settled-stays single h = rw h
 
-  pub settled-moves : (single : Bool) (r : Settled) → stays single ≡ false → r ≡ swappedIn w bare c → r ≡ settled w bare c single
-  settled-moves single r h e = rw h e
+  pub settled-moves : (single : Bool) (a : List Slot) (b : List ParentColumn) (old : Column) (direct : Bool) → stays single ≡ false
+      → a ≡ set (set l c (getD l k emptySlot)) k (getD l c emptySlot) → b ≡ set (set ps k nobody) c (getD ps k nobody)
+      → old ≡ columnAt (getD (bare .slots) k emptySlot) k (bare .count) → direct ≡ isParent old
+      → record { slots = a; parents = b; swap = record { «given_up» = At k; «was_direct» = direct } } ≡ settled l ps k bare c single
+  settled-moves single a b old direct h e f g q = rw (h, e, f, q, g)
 
   -- what the test leaves open: both columns are within the limit
-  pub settled-within : (single : Bool) → stays single ≡ false → (c < w .spot) × (w .spot < columnLimit)
-  settled-within single h = go single (leb (w .spot) c) refl (leb columnLimit (w .spot)) refl h
+  pub settled-within : (single : Bool) → stays single ≡ false → (c < k) × (k < columnLimit)
+  settled-within single h = go single (leb k c) refl (leb columnLimit k) refl h
     where
-      go : (s a : Bool) → leb (w .spot) c ≡ a → (b : Bool) → leb columnLimit (w .spot) ≡ b → (not s || (a || b)) ≡ false → (c < w .spot) × (w .spot < columnLimit)
-      go true false e false f z = (leb-false (w .spot) c e, leb-false columnLimit (w .spot) f)
+      go : (s a : Bool) → leb k c ≡ a → (b : Bool) → leb columnLimit k ≡ b → (not s || (a || b)) ≡ false → (c < k) × (k < columnLimit)
+      go true false e false f z = (leb-false k c e, leb-false columnLimit k f)
       go true false e true f z = let y : _≡_ {A = ℕ} 0 1 = cc in absurd (omega arith)
       go true true e b f z = let y : _≡_ {A = ℕ} 0 1 = cc in absurd (omega arith)
       go false a e b f z = let y : _≡_ {A = ℕ} 0 1 = cc in absurd (omega arith)
+
+-- the same of words
+pub swapped-codes : (l ps bare : List ℕ) (k c count : ℕ) (single : Bool) (a b : List ℕ) (old : Column) (w : Swap) → (not single || (leb k c || leb columnLimit k)) ≡ false
+    → a ≡ set (set l c (getD l k 0)) k (getD l c 0) → b ≡ set (set ps k 0) c (getD ps k 0) → old ≡ columnAt (slotIn (getD bare k 0)) k count → w ≡ record { «given_up» = At k; «was_direct» = isParent old }
+    → record { slots = slotsIn a; parents = parentsIn b; swap = w } ≡ settled (slotsIn l) (parentsIn ps) k (record { slots = slotsIn bare; count = count }) c single
+swapped-codes l ps bare k c count single a b old w h e f g q =
+    rw q
+    (settled-moves (slotsIn l) (parentsIn ps) k (record { slots = slotsIn bare; count = count }) c single (slotsIn a) (parentsIn b) old (isParent old) h
+    (ap slotsIn e ∙ set-slots (set l c (getD l k 0)) k (getD l c 0) ∙ rw (set-slots l c (getD l k 0), getD-slots l k, getD-slots l c))
+    (ap parentsIn f ∙ set-parents (set ps k 0) c (getD ps k 0) ∙ rw (set-parents ps k 0, parent-zero, getD-parents ps k))
+    (rw (getD-slots bare k) g) refl)

@@ -10,35 +10,32 @@ use lib.Seq.{getD-set-same, getD-set-other}
 use borrow.Author.Tests.{lt-ltb, le-ltb, lt-leb, leb-true, leb-false, eq-eqb, ne-eqb, eqb-true, eqb-false}
 use Rattle.column.specs.declared.Column.{Column}
 use Rattle.column.specs.declared.Column.the-variants.{Empty}
-use Rattle.column.specs.declared.Columns.{Columns}
 use Rattle.column.specs.declared.Found.the-variants.{At, Nothing}
 use Rattle.column.specs.declared.Slot.{Slot}
-use Rattle.column.specs.Columns.{columnLimit, isParent, orElse, merge, at, put, live, emptySlot, columnAt, SpareEmpty}
+use Rattle.column.specs.Columns.{columnLimit, isParent, orElse, merge, at, put, live, emptySlot, columnAt}
 use Rattle.column.proofs.Front.{length-front, front-set}
 use Rattle.column.proofs.Laws.{columnOf as slotColumn, live-at, put-set}
 use Rattle.column.proofs.Positions.{length-put, at-live}
 use Rattle.render.specs.declared.render.Ancestor.{Ancestor as Entry}
 use Rattle.links.specs.declared.Met.the-variants.{Nobody, By}
-use Rattle.links.specs.declared.ParentColumn.{ParentColumn}
-use Rattle.placing.specs.declared.Walked.{Walked}
-use Rattle.placing.specs.declared.Settled.{Settled}
+use Rattle.links.specs.Inner.{ParentColumn}
 use Rattle.placing.specs.Placing.{columnOf, spot, walk, gaveUp, swap, swapped, drawsAt}
-use Rattle.placing.specs.Inner.{columnsOf, nobody, metAt, Walks, settled}
+use Rattle.placing.specs.Inner.{Columns, columnsOf, nobody, metAt, Went, Walks, Settled, settled}
 
 -- what settling gives, in the words of the definitions
-pub record Settles (es : List Entry) (c : ℕ) (bs : List Column) (count : ℕ) (slots : List Slot) (r : Settled) : Type 0 where
+pub record Settles (es : List Entry) (c : ℕ) (bs : List Column) (count : ℕ) (r : Settled) : Type 0 where
   pub up : r .swap .«given_up» ≡ gaveUp c es bs
   pub direct : r .swap .«was_direct» ≡ isParent (at bs (orElse (gaveUp c es bs) c))
   pub columns : live count (r .slots) ≡ swapped (gaveUp c es bs) c (walk c es bs)
   pub draws : (i : ℕ) → metAt (r .parents) i ≡ drawsAt (gaveUp c es bs) c es bs i
   pub wide : length (r .parents) ≡ columnLimit
-  pub rest : SpareEmpty count slots → SpareEmpty count (r .slots)
+  pub long : length (r .slots) ≡ columnLimit
 
-module _ (c : ℕ) (bs : List Column) (bare : Columns) (b-is : columnsOf bare ≡ bs) (empty : at bs c ≡ Empty) (long : length (bare .slots) ≡ columnLimit) (w : Walked)
+module _ (c : ℕ) (bs : List Column) (bare : Columns) (b-is : columnsOf bare ≡ bs) (empty : at bs c ≡ Empty) (long : length (bare .slots) ≡ columnLimit) (w : Went)
     (fit : w .fits ≡ true) where
   -- no swap
   stays : (es : List Entry) → Walks bare c es w → (single : Bool) → gaveUp c es bs ≡ Nothing → (not single || (leb (w .spot) c || leb columnLimit (w .spot))) ≡ true
-      → Settles es c bs (w .count) (w .slots) (settled w bare c single)
+      → Settles es c bs (w .count) (settled (w .slots) (w .parents) (w .spot) bare c single)
   stays es p single g h =
       rw h
       (record {
@@ -47,7 +44,7 @@ module _ (c : ℕ) (bs : List Column) (bare : Columns) (b-is : columnsOf bare �
         columns = rw g (rw b-is at (p .columns fit));
         draws = λ i. rw g (rw b-is at (p .met fit i));
         wide = p .wide;
-        rest = λ x. x;
+        long = p .long;
       })
 
   module _ (e : Entry) (p : Walks bare c (e ∷ []) w) (far : c < w .spot) where
@@ -113,13 +110,7 @@ module _ (c : ℕ) (bs : List Column) (bare : Columns) (b-is : columnsOf bare �
     was : isParent (columnAt (getD (bare .slots) k emptySlot) k (bare .count)) ≡ isParent (at bs k)
     was = ap isParent (sym (at-live (bare .count) (bare .slots) k (rw long (p .within))) ∙ ap (λ (x : List Column). at x k) b-is)
 
-    untouched : (j : ℕ) → w .count ≤ j
-        → getD (set (set (w .slots) c (getD (w .slots) k emptySlot)) k (getD (w .slots) c emptySlot)) j emptySlot ≡ getD (w .slots) j emptySlot
-    untouched j h =
-        getD-set-other (set (w .slots) c (getD (w .slots) k emptySlot)) k j (getD (w .slots) c emptySlot) emptySlot (λ z. omega (arith, count-below))
-        ∙ getD-set-other (w .slots) c j (getD (w .slots) k emptySlot) emptySlot (λ z. omega (arith, count-below))
-
-    moves : Settles (e ∷ []) c bs (w .count) (w .slots) (settled w bare c true)
+    moves : Settles (e ∷ []) c bs (w .count) (settled (w .slots) (w .parents) (w .spot) bare c true)
     moves =
         rw (lt-leb k c far, lt-leb columnLimit k (p .within))
         (record {
@@ -128,17 +119,17 @@ module _ (c : ℕ) (bs : List Column) (bare : Columns) (b-is : columnsOf bare �
           columns = rw up-is moved;
           draws = λ i. rw (up-is, ← k-is, eq-eqb k k refl) (drawn i);
           wide = length-set (set (w .parents) k nobody) c _ ∙ length-set (w .parents) k nobody ∙ p .wide;
-          rest = λ g j h. rw (untouched j h) (g j h);
+          long = length-set (set (w .slots) c _) k _ ∙ length-set (w .slots) c _ ∙ p .long;
         })
 
-  settles-one : (e : Entry) → Walks bare c (e ∷ []) w → (t : Bool) → leb (w .spot) c ≡ t → Settles (e ∷ []) c bs (w .count) (w .slots) (settled w bare c true)
+  settles-one : (e : Entry) → Walks bare c (e ∷ []) w → (t : Bool) → leb (w .spot) c ≡ t → Settles (e ∷ []) c bs (w .count) (settled (w .slots) (w .parents) (w .spot) bare c true)
   settles-one e p true q =
       let k-is : w .spot ≡ spot c e bs = rw b-is at (p .last fit) in
       let h : spot c e bs ≤ c = omega (arith, leb-true (w .spot) c q) in
       stays (e ∷ []) p true (rw (le-ltb c (spot c e bs) h)) (rw q)
   settles-one e p false q = moves e p (leb-false (w .spot) c q)
 
-  pub settles : (es : List Entry) → Walks bare c es w → (single : Bool) → single ≡ eqb (length es) 1 → Settles es c bs (w .count) (w .slots) (settled w bare c single)
+  pub settles : (es : List Entry) → Walks bare c es w → (single : Bool) → single ≡ eqb (length es) 1 → Settles es c bs (w .count) (settled (w .slots) (w .parents) (w .spot) bare c single)
   settles [] p single q = stays [] p single refl (rw q)
   settles (e ∷ []) p single q = rw q (settles-one e p (leb (w .spot) c) refl)
   settles (e ∷ f ∷ es) p single q = stays (e ∷ f ∷ es) p single refl (rw (q, ne-eqb (suc (suc (length es))) 1 (λ z. omega arith)))

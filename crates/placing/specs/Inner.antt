@@ -7,17 +7,22 @@ use lib.Dec.{leb}
 use lib.ListN.{length, getD, set}
 use Rattle.column.specs.declared.Column.{Column}
 use Rattle.column.specs.declared.Column.the-variants.{Empty}
-use Rattle.column.specs.declared.Columns.{Columns}
 use Rattle.column.specs.declared.Found.the-variants.{At, Nothing}
 use Rattle.column.specs.declared.Slot.{Slot}
-use Rattle.column.specs.Columns.{columnLimit, isParent, merge, put, live, emptySlot, columnAt, SpareEmpty}
+use Rattle.column.specs.Columns.{columnLimit, isParent, merge, put, live, emptySlot, columnAt}
 use Rattle.render.specs.declared.render.Ancestor.{Ancestor as Entry}
 use Rattle.links.specs.declared.Met.{Met}
 use Rattle.links.specs.declared.Met.the-variants.{Nobody}
-use Rattle.links.specs.declared.ParentColumn.{ParentColumn}
+use Rattle.links.specs.declared.Swap.{Swap}
+use Rattle.links.specs.Inner.{ParentColumn, parentsIn}
+use Rattle.column.specs.Codes.{slotsIn}
 use Rattle.placing.specs.declared.Walked.{Walked}
-use Rattle.placing.specs.declared.Settled.{Settled}
 use Rattle.placing.specs.Placing.{columnOf, spot, enter, walk, metBy}
+
+-- an array of slots and a count
+pub record Columns : Type 0 where
+  pub slots : List Slot
+  pub count : ℕ
 
 abbrev pub columnsOf : Columns → List Column
 columnsOf c = live (c .count) (c .slots)
@@ -29,15 +34,11 @@ nobody = record { met = Nobody }
 abbrev pub metAt : List ParentColumn → ℕ → Met
 metAt l i = (getD l i nobody) .met
 
-abbrev pub cleared : List Slot → ℕ → List Slot
-cleared l i = set l i emptySlot
-
 -- the node's column Empty: at most one past the columns there are, so that one placeholder is made
 pub record Opens (slots : List Slot) (count column : ℕ) (r : Columns) : Type 0 where
   pub columns : column < columnLimit → column ≤ suc (length (live count slots)) → columnsOf r ≡ put (live count slots) column Empty
   pub long : length (r .slots) ≡ columnLimit
   pub fits : r .count ≤ columnLimit
-  pub rest : SpareEmpty count slots → SpareEmpty (r .count) (r .slots)
 
 abbrev pub entered : Slot → ℕ → ℕ → Entry → Slot
 entered s i n e = record { column = merge (columnAt s i n) (columnOf e) }
@@ -47,7 +48,18 @@ abbrev pub lastSpot : ℕ → List Entry → List Column → ℕ → ℕ
 lastSpot c [] cs d = d
 lastSpot c (e ∷ es) cs d = lastSpot c es (enter c e cs) (spot c e cs)
 
-pub record Walks (bare : Columns) (c : ℕ) (es : List Entry) (r : Walked) : Type 0 where
+-- what the walk over the entries leaves, in slots
+pub record Went : Type 0 where
+  pub fits : Bool
+  pub slots : List Slot
+  pub count : ℕ
+  pub parents : List ParentColumn
+  pub spot : ℕ
+
+abbrev pub wentOf : Walked → List ℕ → Went
+wentOf w codes = record { fits = w .fits; slots = slotsIn codes; count = w .count; parents = parentsIn (w .parents); spot = w .spot }
+
+pub record Walks (bare : Columns) (c : ℕ) (es : List Entry) (r : Went) : Type 0 where
   pub over : r .fits ≡ false → columnLimit < length (walk c es (columnsOf bare))
   pub columns : r .fits ≡ true → live (r .count) (r .slots) ≡ walk c es (columnsOf bare)
   pub met : r .fits ≡ true → (i : ℕ) → metAt (r .parents) i ≡ metBy i c es (columnsOf bare) Nobody
@@ -56,20 +68,25 @@ pub record Walks (bare : Columns) (c : ℕ) (es : List Entry) (r : Walked) : Typ
   pub long : length (r .slots) ≡ columnLimit
   pub wide : length (r .parents) ≡ columnLimit
   pub fitting : r .count ≤ columnLimit
-  pub rest : SpareEmpty (bare .count) (bare .slots) → SpareEmpty (r .count) (r .slots)
 
--- the entry's column and the node's change places
-abbrev pub swappedIn : Walked → Columns → ℕ → Settled
-swappedIn w bare c =
+-- the columns after the swap, who draws in each, and the swap
+pub record Settled : Type 0 where
+  pub slots : List Slot
+  pub parents : List ParentColumn
+  pub swap : Swap
+
+-- the column k of the entry and the node's c change places
+abbrev pub swappedIn : List Slot → List ParentColumn → ℕ → Columns → ℕ → Settled
+swappedIn l ps k bare c =
     record {
-      slots = set (set (w .slots) c (getD (w .slots) (w .spot) emptySlot)) (w .spot) (getD (w .slots) c emptySlot);
-      parents = set (set (w .parents) (w .spot) nobody) c (getD (w .parents) (w .spot) nobody);
-      swap = record { «given_up» = At (w .spot); «was_direct» = isParent (columnAt (getD (bare .slots) (w .spot) emptySlot) (w .spot) (bare .count)) };
+      slots = set (set l c (getD l k emptySlot)) k (getD l c emptySlot);
+      parents = set (set ps k nobody) c (getD ps k nobody);
+      swap = record { «given_up» = At k; «was_direct» = isParent (columnAt (getD (bare .slots) k emptySlot) k (bare .count)) };
     }
 
 -- so they do where a single entry's column lies to the right; a column past the limit, which no walk gives, changes none
-abbrev pub settled : Walked → Columns → ℕ → Bool → Settled
-settled w bare c single =
-    cond (not single || (leb (w .spot) c || leb columnLimit (w .spot)))
-    (record { slots = w .slots; parents = w .parents; swap = record { «given_up» = Nothing; «was_direct» = false } })
-    (swappedIn w bare c)
+abbrev pub settled : List Slot → List ParentColumn → ℕ → Columns → ℕ → Bool → Settled
+settled l ps k bare c single =
+    cond (not single || (leb k c || leb columnLimit k))
+    (record { slots = l; parents = ps; swap = record { «given_up» = Nothing; «was_direct» = false } })
+    (swappedIn l ps k bare c)

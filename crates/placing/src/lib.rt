@@ -1,36 +1,29 @@
 // Where a row's node and its entries go, after graph_to_row_shape.rs.
 ghost use mathlib.Core.Path.{_≡_};
 ghost use Prim.Native.Nat.{_<_, min};
-ghost use Rattle.column.specs.Columns.{columnLimit, live};
+ghost use lib.ListN.{getD, set};
+ghost use Rattle.column.specs.Columns.{columnLimit, isParent, live};
+ghost use Rattle.column.specs.Codes.{slotIn, slotsIn};
+ghost use Rattle.links.specs.Inner.{parentIn, parentsIn};
+ghost use Rattle.links.specs.declared.Met.the-variants.{By};
 ghost use Rattle.render.specs.Entries.{entryLimit, listed};
 ghost use Rattle.placing.specs.Placing.{columnOf, heldBy, spot as spotOf};
-ghost use Rattle.placing.specs.Inner.{cleared as clearedOf, Opens, entered as enteredOf, Walks, swappedIn as swappedOf, settled as settledOf};
+ghost use Rattle.placing.specs.Inner.{Opens, entered as enteredOf, wentOf, Walks, settled as settledOf};
 use column::COLUMN_LIMIT;
 use column::Column;
-use column::Columns;
 use column::Found;
-use column::Slot;
-use links::Met;
-use links::ParentColumn;
 use links::Swap;
 use render::Ancestor;
 use render::ENTRY_LIMIT;
 use render::Entries;
 
-// The columns after the entries: whether they fit, the columns, who drew in each, and the last entry's column.
+// What the walk over the entries gives beside the columns: whether they fit, how many there are, who drew in each (the column that the
+// entry merges as, in a word), and the last entry's column.
 pub struct Walked {
     pub fits: bool,
-    pub slots: [Slot; COLUMN_LIMIT],
     pub count: usize,
-    pub parents: [ParentColumn; COLUMN_LIMIT],
+    pub parents: [u64; COLUMN_LIMIT],
     pub spot: usize,
-}
-
-// The columns after the swap, who draws in each, and the swap.
-pub struct Settled {
-    pub slots: [Slot; COLUMN_LIMIT],
-    pub parents: [ParentColumn; COLUMN_LIMIT],
-    pub swap: Swap,
 }
 
 // The column that an entry merges as.
@@ -45,67 +38,65 @@ fn ancestor_to_column(ancestor: Ancestor) -> Column
 }
 
 // The column that holds an entry's id.
-pub fn held_by(slots: [Slot; COLUMN_LIMIT], count: usize, ancestor: Ancestor) -> Found
-    ensures { λ r. ⌜ r ≡ heldBy ancestor (live count slots) ⌝ }
+pub fn held_by(codes: &[u64], count: usize, ancestor: Ancestor) -> Found
+    ensures { λ r. ⌜ r ≡ heldBy ancestor (live count (slotsIn (now (codes .entry)))) ⌝ }
 {
     match ancestor {
-        Ancestor::Ancestor(node) => column::find(slots, count, node),
-        Ancestor::Parent(node) => column::find(slots, count, node),
+        Ancestor::Ancestor(node) => column::find(codes, count, node),
+        Ancestor::Parent(node) => column::find(codes, count, node),
         Ancestor::Anonymous => Found::Nothing,
     }
 }
 
 // The column that an entry merges into: its id's, else an Empty one, else a new last one.
-fn entry_column(
-    slots: [Slot; COLUMN_LIMIT],
-    count: usize,
-    column: usize,
-    ancestor: Ancestor,
-) -> usize
-    ensures { λ r. ⌜ r ≡ spotOf column ancestor (live count slots) ⌝ }
+fn entry_column(codes: &[u64], count: usize, column: usize, ancestor: Ancestor) -> usize
+    ensures { λ r. ⌜ r ≡ spotOf column ancestor (live count (slotsIn (now (codes .entry)))) ⌝ }
 {
-    if let Found::At(index) = held_by(slots, count, ancestor) {
+    if let Found::At(index) = held_by(codes, count, ancestor) {
         return index;
     }
-    let Found::At(index) = column::find_empty(slots, count, column) else {
-        return column::live_count(count);
+    let Found::At(index) = column::find_empty(codes, count, column) else {
+        return column::live_words(codes, count);
     };
     index
 }
 
-// Slot `index` Empty; where there is no such slot nothing changes.
-fn cleared(slots: [Slot; COLUMN_LIMIT], index: usize) -> [Slot; COLUMN_LIMIT]
-    ensures { λ r. ⌜ r ≡ clearedOf slots index ⌝ }
+// Column `index` Empty; where there is no such column nothing changes.
+fn clear(codes: &mut [u64], index: usize)
+    ensures { λ r. ⌜ now (codes .exit) ≡ set (now (codes .entry)) index 0 ⌝ }
 {
-    let mut out = slots;
-    if COLUMN_LIMIT <= index {
-        return out;
+    if codes.len() <= index {
+        return;
     }
-    out[index] = Slot::empty();
-    out
+    codes[index] = 0;
 }
 
-// The columns with the node's Empty; a placeholder before a new last one is Empty too.
-pub fn opened(slots: [Slot; COLUMN_LIMIT], count: usize, column: usize) -> Columns
-    ensures { λ r. ⌜ Opens slots count column r ⌝ }
+// Makes the node's column Empty; a placeholder before a new last one is Empty too. Gives the count of columns then.
+pub fn open(codes: &mut [u64; COLUMN_LIMIT], count: usize, column: usize) -> usize
+    ensures { λ r. ⌜ Opens (slotsIn (now (codes .entry))) count column (record { slots = slotsIn (now (codes .exit)); count = r }) ⌝ }
 {
-    let n = column::live_count(count);
-    let beside = cleared(slots, n);
-    let out = cleared(beside, column);
-    Columns {
-        slots: out,
-        count: column::count_with(count, column),
-    }
+    let n = column::live_words(codes, count);
+    clear(codes, n);
+    clear(codes, column);
+    column::count_with(count, column)
 }
 
-// The slot of a column after an entry merged into it.
-fn entered(slot: Slot, index: usize, count: usize, ancestor: Ancestor) -> Slot
-    ensures { λ r. ⌜ r ≡ enteredOf slot index count ancestor ⌝ }
+// The word of a column after an entry merged into it.
+fn entered(code: u64, index: usize, count: usize, ancestor: Ancestor) -> u64
+    ensures { λ r. ⌜ slotIn r ≡ enteredOf (slotIn code) index count ancestor ⌝ }
 {
-    let old = slot.column_at(index, count);
+    let old = column::column_at(code, index, count);
     let new = ancestor_to_column(ancestor);
     let column = old.merge(new);
-    Slot { column }
+    column.code()
+}
+
+// The word of who draws: of the column that the entry merges as.
+fn drawn(ancestor: Ancestor) -> u64
+    ensures { λ r. ⌜ parentIn r ≡ record { met = By ancestor } ⌝ }
+{
+    let column = ancestor_to_column(ancestor);
+    column.code()
 }
 
 // How many entries an array of them has: a count above 32 is read as 32.
@@ -119,42 +110,36 @@ fn entry_count(count: usize) -> usize
     }
 }
 
-// The columns after the entries, which go in order.
-pub fn walk(bare: Columns, column: usize, entries: Entries) -> Walked
-    ensures { λ r. ⌜ Walks bare column (listed entries) r ⌝ }
+// Lets the entries merge into the columns, in order.
+pub fn walk(codes: &mut [u64; COLUMN_LIMIT], live: usize, column: usize, entries: Entries) -> Walked
+    ensures { λ r. ⌜ Walks (record { slots = slotsIn (now (codes .entry)); count = live }) column (listed entries) (wentOf r (now (codes .exit))) ⌝ }
 {
     let list = entries.list;
     let n = entry_count(entries.count);
-    let mut slots = bare.slots;
-    let mut count = column::live_count(bare.count);
-    let met = Met::Nobody;
-    let mut parents = [ParentColumn { met }; COLUMN_LIMIT];
+    let mut count = column::live_words(codes, live);
+    let mut parents = [0u64; COLUMN_LIMIT];
     let mut spot: usize = 0;
     let mut i: usize = 0;
     while i < n {
         let entry = list[i];
         let ancestor = entry.ancestor;
-        let index = entry_column(slots, count, column, ancestor);
+        let index = entry_column(codes, count, column, ancestor);
         if COLUMN_LIMIT <= index {
             return Walked {
                 fits: false,
-                slots,
                 count,
                 parents,
                 spot,
             };
         }
-        let slot = slots[index];
-        slots[index] = entered(slot, index, count, ancestor);
+        codes[index] = entered(codes[index], index, count, ancestor);
         count = column::count_with(count, index);
-        let met = Met::By(ancestor);
-        parents[index] = ParentColumn { met };
+        parents[index] = drawn(ancestor);
         spot = index;
         i += 1;
     }
     Walked {
         fits: true,
-        slots,
         count,
         parents,
         spot,
@@ -162,54 +147,52 @@ pub fn walk(bare: Columns, column: usize, entries: Entries) -> Walked
 }
 
 // The entry's column and the node's change places.
-fn swap_columns(walked: Walked, bare: Columns, column: usize) -> Settled
-    requires { ⌜ (column < walked .spot) × (walked .spot < columnLimit) ⌝ }
-    ensures { λ r. ⌜ r ≡ swappedOf walked bare column ⌝ }
+fn swap_columns(
+    codes: &mut [u64; COLUMN_LIMIT],
+    parents: &mut [u64; COLUMN_LIMIT],
+    old: Column,
+    spot: usize,
+    column: usize,
+) -> Swap
+    requires { ⌜ (column < spot) × (spot < columnLimit) ⌝ }
+    ensures { λ r. ⌜ (now (codes .exit) ≡ set (set (now (codes .entry)) column (getD (now (codes .entry)) spot 0)) spot (getD (now (codes .entry)) column 0))
+        × (now (parents .exit) ≡ set (set (now (parents .entry)) spot 0) column (getD (now (parents .entry)) spot 0))
+        × (r ≡ record { «given_up» = Found.At spot; «was_direct» = isParent old }) ⌝ }
 {
-    let mut slots = walked.slots;
-    let mut parents = walked.parents;
-    let spot = walked.spot;
-    let node_slot = slots[column];
-    let entry_slot = slots[spot];
-    slots[column] = entry_slot;
-    slots[spot] = node_slot;
+    let node_code = codes[column];
+    let entry_code = codes[spot];
+    codes[column] = entry_code;
+    codes[spot] = node_code;
     let drawn = parents[spot];
-    let met = Met::Nobody;
-    parents[spot] = ParentColumn { met };
+    parents[spot] = 0;
     parents[column] = drawn;
-    let before = bare.slots;
-    let old = before[spot];
-    let old_column = old.column_at(spot, bare.count);
     let given_up = Found::At(spot);
-    let swap = Swap {
+    Swap {
         given_up,
-        was_direct: old_column.is_parent(),
-    };
-    Settled {
-        slots,
-        parents,
-        swap,
+        was_direct: old.is_parent(),
     }
 }
 
-// A single entry whose column lies right of the node swaps columns with it.
-pub fn settle(walked: Walked, bare: Columns, column: usize, single: bool) -> Settled
-    ensures { λ r. ⌜ r ≡ settledOf walked bare column single ⌝ }
+// A single entry whose column lies right of the node swaps columns with it. Before the entries there were `count` columns, `bare`.
+pub fn settle(
+    codes: &mut [u64; COLUMN_LIMIT],
+    parents: &mut [u64; COLUMN_LIMIT],
+    bare: &[u64; COLUMN_LIMIT],
+    count: usize,
+    spot: usize,
+    column: usize,
+    single: bool,
+) -> Swap
+    ensures { λ r. ⌜ record { slots = slotsIn (now (codes .exit)); parents = parentsIn (now (parents .exit)); swap = r }
+        ≡ settledOf (slotsIn (now (codes .entry))) (parentsIn (now (parents .entry))) spot (record { slots = slotsIn (now (bare .entry)); count = count }) column single ⌝ }
 {
-    let slots = walked.slots;
-    let parents = walked.parents;
-    let spot = walked.spot;
     if !single | ((spot <= column) | (COLUMN_LIMIT <= spot)) {
         let given_up = Found::Nothing;
-        let swap = Swap {
+        return Swap {
             given_up,
             was_direct: false,
         };
-        return Settled {
-            slots,
-            parents,
-            swap,
-        };
     }
-    swap_columns(walked, bare, column)
+    let old = column::column_at(bare[spot], spot, count);
+    swap_columns(codes, parents, old, spot, column)
 }

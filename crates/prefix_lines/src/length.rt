@@ -7,17 +7,15 @@ ghost use Rattle.glyphs.specs.Inner.{cellsText, entry};
 ghost use Rattle.prefix_lines.specs.Inner.{frameLength, lineText, linesText};
 use crate::writer::Frame;
 use column::COLUMN_LIMIT;
+use glyphs::DRAWN;
 use glyphs::LINES;
 use glyphs::Line;
-use glyphs::Place;
 use glyphs::Renderer;
 use glyphs::Row;
 use glyphs::TABLE;
-use glyphs::cell_glyph;
+use glyphs::draw_cells;
 use glyphs::is_present;
 use glyphs::line_at;
-use glyphs::next_index;
-use glyphs::next_link;
 use render::Cell;
 
 // The length of a line's cells.
@@ -33,23 +31,8 @@ fn cells_length(
     requires { ⌜ width ≤ columnLimit ⌝ }
     ensures { λ r. ⌜ r ≡ length (cellsText (entry (now (table .entry))) renderer row mark (take width cells) line) ⌝ }
 {
-    let mut count: usize = 0;
-    let mut i: usize = 0;
-    while i < width {
-        let cell = cells[i];
-        let k = next_index(i);
-        let after = cells[k];
-        let next = next_link(after, i, width);
-        let place = Place {
-            index: i,
-            cell,
-            next,
-        };
-        let glyph = cell_glyph(table, renderer, row, mark, line, place);
-        count += glyph.length;
-        i += 1;
-    }
-    count
+    let mut drawn = [0u8; DRAWN];
+    draw_cells(&mut drawn, table, renderer, row, mark, line, cells, width)
 }
 
 // How many bytes a line has beside its cells.

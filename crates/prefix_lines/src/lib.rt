@@ -9,8 +9,9 @@ mod writer;
 
 use column::COLUMN_LIMIT;
 use glyphs::Renderer;
-use glyphs::glyph_table;
+use glyphs::TABLE;
 use glyphs::row_of;
+use glyphs::write_table;
 use length::lines_length;
 use render::RowShape;
 use writer::Frame;
@@ -48,7 +49,8 @@ fn write_shape(
     let cells = shape.cells;
     let width = shape.width;
     let row = row_of(shape);
-    let table = glyph_table(renderer);
+    let mut table = [0u8; TABLE];
+    write_table(&mut table, renderer);
     if out.len() < lines_length(frame, &table, renderer, row, mark, cells, width) {
         return refused(8);
     }

@@ -8,18 +8,16 @@ ghost use Rattle.glyphs.specs.Joins.{over};
 ghost use Rattle.prefix_lines.specs.Inner.{closing, lineText, linesText, opening};
 ghost use Rattle.prefix_lines.specs.PrefixLines.{letter};
 use column::COLUMN_LIMIT;
+use glyphs::DRAWN;
 use glyphs::LINES;
 use glyphs::Line;
-use glyphs::Place;
 use glyphs::Renderer;
 use glyphs::Row;
 use glyphs::TABLE;
-use glyphs::cell_glyph;
+use glyphs::copy_bytes;
+use glyphs::draw_cells;
 use glyphs::is_present;
 use glyphs::line_at;
-use glyphs::next_index;
-use glyphs::next_link;
-use glyphs::write_glyph;
 use render::Cell;
 
 // What stands around a line's cells: the letter and the end, in a listing a colon and `$` too.
@@ -44,23 +42,10 @@ fn write_cells(
     ensures { λ r. ⌜ (r ≡ length (cellsText (entry (now (table .entry))) renderer row mark (take width cells) line))
         × (now (out .exit) ≡ over (cellsText (entry (now (table .entry))) renderer row mark (take width cells) line) (now (out .entry))) ⌝ }
 {
-    let mut at: usize = 0;
-    let mut i: usize = 0;
-    while i < width {
-        let cell = cells[i];
-        let k = next_index(i);
-        let after = cells[k];
-        let next = next_link(after, i, width);
-        let place = Place {
-            index: i,
-            cell,
-            next,
-        };
-        let glyph = cell_glyph(table, renderer, row, mark, line, place);
-        at += write_glyph(&mut out[at..], glyph, glyph.length);
-        i += 1;
-    }
-    at
+    let mut drawn = [0u8; DRAWN];
+    let n = draw_cells(&mut drawn, table, renderer, row, mark, line, cells, width);
+    copy_bytes(out, &drawn[0..n]);
+    n
 }
 
 // The kind letter.

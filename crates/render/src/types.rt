@@ -33,11 +33,11 @@ pub struct Options {
     pub graph_row_shape_style: Style,
 }
 
-// One column of a row shape, with its cell in each line.
+// One column of a row shape, with its cell in each line. The marks stand first, so that a cell has no gap and is copied as one word.
 pub struct Cell {
-    pub node: NodeLine,
     pub link: LinkLine,
     pub link_from_node: LinkLine,
+    pub node: NodeLine,
     pub term: bool,
     pub ancestry: PadLine,
     pub parent: bool,

@@ -10,10 +10,10 @@ use lib.ListN.{length, replicate}
 use borrow.Author.Tests.{lt-ltb, le-ltb}
 use Rattle.column.specs.declared.Column.{Column}
 use Rattle.column.specs.declared.Column.the-variants.{Empty}
-use Rattle.column.specs.declared.Columns.{Columns}
 use Rattle.column.specs.declared.Found.{Found}
+use Rattle.column.specs.declared.Slot.{Slot}
 use Rattle.column.specs.declared.Found.the-variants.{At, Nothing}
-use Rattle.column.specs.Columns.{columnLimit, isParent, find, orElse, merge, at, put, live}
+use Rattle.column.specs.Columns.{columnLimit, isParent, find, orElse, merge, at, put, reset, live, SpareEmpty}
 use Rattle.column.proofs.Front.{length-front}
 use Rattle.column.proofs.Laws.{columnOf as slotColumn}
 use Rattle.column.proofs.Positions.{at-put-same, length-put}
@@ -28,21 +28,17 @@ use Rattle.shaper.specs.declared.Shaper.{Shaper}
 use Rattle.row_shape.specs.declared.RowAnswer.{RowAnswer}
 use Rattle.cells.specs.declared.RowLines.{RowLines}
 use Rattle.links.specs.declared.Met.{Met}
-use Rattle.links.specs.declared.ParentColumn.{ParentColumn}
 use Rattle.links.specs.declared.Swap.{Swap}
 use Rattle.links.specs.declared.AncestorColumnBounds.{AncestorColumnBounds}
-use Rattle.placing.specs.declared.Walked.{Walked}
-use Rattle.placing.specs.declared.Settled.{Settled}
 use Rattle.render.specs.Refusals.{refusal}
 use Rattle.shaper.specs.Shaper.{View, viewOf}
 use Rattle.shaper.specs.NodeColumn.{unallocated, nodeColumn, head}
 use Rattle.shaper.specs.Inner.{fitting}
 use Rattle.shaper.proofs.NodeLaws.{node-in, fitting-at, fitting-none}
-use Rattle.placing.specs.Placing.{walk, Placed, placeAt, place, drawsAt}
+use Rattle.placing.specs.Placing.{walk, Placed, placeAt, place, dashed, drawsAt}
 use Rattle.links.specs.Links.{boundsOf, linked}
-use Rattle.links.specs.Inner.{mets}
-use Rattle.placing.specs.Inner.{columnsOf, metAt, Opens, Walks, settled}
-use Rattle.row_shape.specs.Inner.{Ends}
+use Rattle.links.specs.Inner.{ParentColumn, mets}
+use Rattle.placing.specs.Inner.{Columns, columnsOf, metAt, Opens, Went, Walks, Settled, settled}
 use Rattle.cells.specs.Cells.{cellsFrom, cellOf}
 use Rattle.row_shape.specs.Row.{anyOf, separator, shapeAt, noShape, RowReply, rowChecks, rowAfter, rowAnswer, row}
 use Rattle.row_shape.specs.Promises.{Rows}
@@ -96,7 +92,7 @@ module _ (s : Shaper) (n : ℕ) (es : Entries) where
         rw a (refused-row 3 (wide (omega (arith, walk-more (nodeColumn v n) (listed es) cs, length-put (v .columns) (nodeColumn v n) Empty))))
 
     module _ (existing f : Found) (c : ℕ) (e : existing ≡ find n (v .columns)) (g : f ≡ fitting (orElse existing (unallocated v))) (q : f ≡ At c)
-        (bare : Columns) (o : Opens (s .slots) (s .count) c bare) where
+        (l₀ : List Slot) (same : live (s .count) l₀ ≡ live (s .count) (s .slots)) (bare : Columns) (o : Opens l₀ (s .count) c bare) where
       placed : (c ≡ nodeColumn v n) × (nodeColumn v n < columnLimit)
       placed = fitting-at c (nodeColumn v n) (sym q ∙ g ∙ rw e)
 
@@ -105,10 +101,10 @@ module _ (s : Shaper) (n : ℕ) (es : Entries) where
 
       -- the columns with the node's Empty
       bare-is : columnsOf bare ≡ put (v .columns) c Empty
-      bare-is = o .columns within (rw (placed .0) (node-in v n))
+      bare-is = rw same at (o .columns within (rw (same, placed .0) (node-in v n)))
 
       -- no room for the entries
-      pub row-no-room : (r : RowAnswer) (w : Walked) → Walks bare c (listed es) w → w .fits ≡ false
+      pub row-no-room : (r : RowAnswer) (w : Went) → Walks bare c (listed es) w → w .fits ≡ false
           → r ≡ record { refusal = 4; shape = noShape; shaper = s } → Rows s n es r
       row-no-room r w p z a =
           let h : columnLimit < length (walk c (listed es) (put (v .columns) c Empty)) = rw bare-is at (p .over z) in
@@ -192,9 +188,9 @@ reply-same : (r : ℕ) (a b : RowShape) (x y : View) → a ≡ b → x ≡ y →
 reply-same r a b x y e f = ap₂ (λ (g : RowShape) (u : View). record { refusal = r; shape = g; view = u }) e f
 
 module _ (s : Shaper) (n : ℕ) (es : Entries) (few : tooMany es ≡ false) (fewer : es .count ≤ entryLimit) (entries : length (es .list) ≡ entryLimit) (existing f : Found)
-    (c : ℕ) (e : existing ≡ find n (live (s .count) (s .slots))) (g : f ≡ fitting (orElse existing (unallocated (viewOf s)))) (q : f ≡ At c) (bare : Columns)
-    (o : Opens (s .slots) (s .count) c bare) (w : Walked) (p : Walks bare c (listed es) w) (fit : w .fits ≡ true) (r : Settled)
-    (a : r ≡ settled w bare c (eqb (es .count) 1)) where
+    (c : ℕ) (e : existing ≡ find n (live (s .count) (s .slots))) (g : f ≡ fitting (orElse existing (unallocated (viewOf s)))) (q : f ≡ At c) (l₀ : List Slot) (same : live (s .count) l₀ ≡ live (s .count) (s .slots)) (bare : Columns)
+    (o : Opens l₀ (s .count) c bare) (w : Went) (p : Walks bare c (listed es) w) (fit : w .fits ≡ true) (r : Settled)
+    (a : r ≡ settled (w .slots) (w .parents) (w .spot) bare c (eqb (es .count) 1)) where
   abbrev u : View
   u = viewOf s
 
@@ -205,15 +201,15 @@ module _ (s : Shaper) (n : ℕ) (es : Entries) (few : tooMany es ≡ false) (few
   pl = placeAt c (listed es) bs
 
   c-is : c ≡ nodeColumn u n
-  c-is = placed s n es few existing f c e g q bare o .0
+  c-is = placed s n es few existing f c e g q l₀ same bare o .0
 
   b-is : columnsOf bare ≡ bs
-  b-is = bare-is s n es few existing f c e g q bare o
+  b-is = bare-is s n es few existing f c e g q l₀ same bare o
 
   one : eqb (es .count) 1 ≡ eqb (length (listed es)) 1
   one = rw (length-listed es entries fewer)
 
-  st : Settles (listed es) c bs (w .count) (w .slots) r
+  st : Settles (listed es) c bs (w .count) r
   st = rw a (settles c bs bare b-is (at-put-same (u .columns) c Empty) (o .long) w fit (listed es) p (eqb (es .count) 1) one)
 
   width-is : w .count ≡ length (walk c (listed es) bs)
@@ -230,9 +226,12 @@ module _ (s : Shaper) (n : ℕ) (es : Entries) (few : tooMany es ≡ false) (few
       (st .draws) b-is (st .columns) (swap-same (r .swap) _ (st .up) (st .direct))
       ∙ ap (λ (k : ℕ). linesBy (drawsAt (pl .up) c (listed es) bs) (record { «given_up» = pl .up; «was_direct» = isParent (at bs (orElse (pl .up) c)) }) bs (pl .settled) k c) width-is
 
-  pub row-done : (term sep hd : Bool) (l : RowLines) (cols : Columns) (t : Shaper) → term ≡ anyOf isAnonymous (listed es) → l ≡ linesOf r bare (w .count) c
-      → sep ≡ separator u existing c term → hd ≡ head existing (u .columns) → Ends (r .slots) (w .count) (u .style .«dash_style») cols
-      → t ≡ record { slots = cols .slots; count = cols .count; «previous_node_column» = At c; options = s .options }
+  pub after-long : length (r .slots) ≡ columnLimit
+  after-long = st .long
+
+  pub row-done : (term sep hd : Bool) (l : RowLines) (m : ℕ) (slots : List Slot) → term ≡ anyOf isAnonymous (listed es) → l ≡ linesOf r bare (w .count) c
+      → sep ≡ separator u existing c term → hd ≡ head existing (u .columns) → m ≤ columnLimit → live m slots ≡ reset (dashed (u .style .«dash_style») (live (w .count) (r .slots)))
+      → SpareEmpty m slots
       → Rows s n es
       (record {
         refusal = 0;
@@ -250,19 +249,18 @@ module _ (s : Shaper) (n : ℕ) (es : Entries) (few : tooMany es ≡ false) (few
               «term_line» = term;
               cells = l .cells;
             };
-        shaper = t;
+        shaper = record { slots = slots; count = m; «previous_node_column» = At c; options = s .options };
       })
-  row-done term sep hd l cols t te le se he en ti =
-      rw ti
-      (record {
+  row-done term sep hd l m slots te le se he fits en spare =
+      record {
         reply =
             reply-same 0 _ (shapeAt u n (listed es) pl) _ (rowAfter u pl)
             (shape-done u n (listed es) pl (ltb 1 (es .count)) sep hd (eqb (es .count) 0) term (w .count) l
             (rw (length-listed es entries fewer)) (se ∙ rw (e, te)) (he ∙ rw e) (root-is es entries fewer) width-is te (lines-are l le))
-            (rw (en .columns, st .columns))
+            (rw (en, st .columns))
             ∙ sym (rw few (accept u n (listed es) c c-is (rw (← width-is) (p .fitting))));
         refused = λ z. absurd (z refl);
-        fits = λ z. en .fits;
+        fits = λ z. fits;
         options = refl;
-        rest = λ x. en .rest (st .rest (p .rest (o .rest x)));
-      })
+        rest = λ x. spare;
+      }

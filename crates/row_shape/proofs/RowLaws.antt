@@ -8,18 +8,11 @@ use native.Mathlib.Omega.{arith}
 use lib.Dec.{ltb, leb}
 use lib.ListN.{drop}
 use borrow.Author.Tests.{le-leb, lt-leb, ltb-true, ltb-false}
-use Rattle.column.specs.declared.Columns.{Columns}
 use Rattle.column.specs.declared.Found.{Found}
 use Rattle.column.specs.declared.Found.the-variants.{At, Nothing}
-use Rattle.column.specs.declared.Slot.{Slot}
-use Rattle.column.specs.Columns.{direct, Mapped, WasReset}
-use Rattle.column.proofs.Positions.{spare-kept}
-use Rattle.render.specs.declared.types.DashStyle.{DashStyle}
-use Rattle.render.specs.declared.types.DashStyle.the-variants.{Persistent, Once}
 use Rattle.shaper.specs.declared.Shaper.{Shaper}
 use Rattle.shaper.specs.Shaper.{heightLimit, View, viewOf}
 use Rattle.links.specs.Links.{isAt}
-use Rattle.row_shape.specs.Inner.{Ends}
 use Rattle.row_shape.specs.Row.{separator, anyOf}
 
 -- ---- whether one of a list passes a test
@@ -32,19 +25,6 @@ module _ {A : Type 0} (t : A → Bool) where
 
   pub any-none : (l : List A) → l ≡ [] → anyOf t l ≡ false
   any-none l e = rw e
-
--- ---- the end of a row
-module _ (slots : List Slot) (count : ℕ) (d : DashStyle) (r : Columns) where
-  pub ends-persistent : d ≡ Persistent → WasReset slots count r → Ends slots count d r
-  ends-persistent e w = record { columns = rw e (w .columns); fits = w .fits; rest = w .rest }
-
-  pub ends-once : (m : List Slot) → d ≡ Once → Mapped direct slots count m → WasReset m count r → Ends slots count d r
-  ends-once m e f w =
-      record {
-        columns = rw (e, ← f .columns) (w .columns);
-        fits = w .fits;
-        rest = λ g. w .rest (spare-kept count slots m (f .rest) g);
-      }
 
 pub separates-not : (v : View) (existing : Found) (i c : ℕ) (terms : Bool) → existing ≡ At i → false ≡ separator v existing c terms
 separates-not v existing i c terms e = rw e

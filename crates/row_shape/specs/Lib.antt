@@ -1,3 +1,2 @@
-pub mod Inner
 pub mod Row
 pub mod Promises

@@ -1,15 +1,15 @@
 // The row call by value, after graph_to_row_shape.rs.
 ghost use mathlib.Core.Path.{_≡_};
 ghost use Prim.Native.Nat.{_≤_};
+ghost use Rattle.column.specs.Columns.{columnLimit, live, reset};
+ghost use Rattle.column.specs.Codes.{slotsIn};
 ghost use Rattle.render.specs.Entries.{entryLimit, isAnonymous, listed};
+ghost use Rattle.placing.specs.Placing.{dashed};
 ghost use Rattle.shaper.specs.Shaper.{viewOf};
-ghost use Rattle.row_shape.specs.Inner.{Ends};
 ghost use Rattle.row_shape.specs.Row.{anyOf, separator, noShape};
 ghost use Rattle.row_shape.specs.Promises.{Rows};
 use column::COLUMN_LIMIT;
-use column::Columns;
 use column::Found;
-use column::Slot;
 use render::Cell;
 use render::DashStyle;
 use render::Entries;
@@ -18,6 +18,7 @@ use shaper::ACCEPTED;
 use shaper::NODE_LINE_TOO_WIDE;
 use shaper::Shaper;
 use shaper::TOO_MANY_ENTRIES;
+use shaper::find_column;
 
 // What the row call gives: the refusal's number, the shape, and the shaper after it.
 pub struct RowAnswer {
@@ -67,14 +68,15 @@ fn has_anonymous(entries: Entries) -> bool
     false
 }
 
-// What ends a row: with Once dashes Ancestor columns turn Parent, then the columns are reset.
-fn ended(slots: [Slot; COLUMN_LIMIT], count: usize, dash_style: DashStyle) -> Columns
-    ensures { λ r. ⌜ Ends slots count «dash_style» r ⌝ }
+// What ends a row: with Once dashes Ancestor columns turn Parent, then the columns are reset. Gives the count then.
+fn ended(codes: &mut [u64; COLUMN_LIMIT], count: usize, dash_style: DashStyle) -> usize
+    ensures { λ r. ⌜ (r ≤ columnLimit) × (live r (slotsIn (now (codes .exit))) ≡ reset (dashed «dash_style» (live count (slotsIn (now (codes .entry)))))) ⌝ }
 {
     match dash_style {
-        DashStyle::Persistent => column::reset(slots, count),
+        DashStyle::Persistent => column::reset(codes, count),
         DashStyle::Once => {
-            column::reset(column::convert_ancestor_to_parent(slots, count), count)
+            column::convert_ancestor_to_parent(codes, count);
+            column::reset(codes, count)
         }
     }
 }
@@ -113,27 +115,35 @@ pub fn next_row_shape(shaper: Shaper, node: u32, entries: Entries) -> RowAnswer
     }
     let slots = shaper.slots;
     let count = shaper.count;
-    let existing = column::find(slots, count, node);
-    let Found::At(column) = shaper.find_column(existing) else {
+    let mut codes = [0u64; COLUMN_LIMIT];
+    column::write_codes(&mut codes, slots, count);
+    let existing = column::find(&codes, count, node);
+    let options = shaper.options;
+    let previous = shaper.previous_node_column;
+    let Found::At(column) = find_column(&codes, count, options, previous, existing) else {
         return refused_row(shaper, NODE_LINE_TOO_WIDE);
     };
-    let bare = placing::opened(slots, count, column);
-    let walked = placing::walk(bare, column, entries);
+    let is_head = shaper::is_head(&codes, count, existing);
+    let live = placing::open(&mut codes, count, column);
+    let bare = codes;
+    let walked = placing::walk(&mut codes, live, column, entries);
     if !walked.fits {
         return refused_row(shaper, NODE_LINE_TOO_WIDE);
     }
-    let settled = placing::settle(walked, bare, column, entries.count == 1);
+    let mut parents = walked.parents;
+    let single = entries.count == 1;
+    let spot = walked.spot;
+    let swap = placing::settle(&mut codes, &mut parents, &bare, live, spot, column, single);
     let term_line = has_anonymous(entries);
-    let lines = cells::lines(settled, bare, walked.count, column);
+    let lines = cells::lines(&parents, swap, &bare, live, &codes, walked.count, column);
     let cells = lines.cells;
-    let options = shaper.options;
     let style = options.graph_row_shape_style;
     let shape = RowShape {
         node,
         merge: 1 < entries.count,
         separator_line: separator_line(shaper, existing, column, term_line),
         style,
-        is_head: shaper::is_head(slots, count, existing),
+        is_head,
         is_root: entries.count == 0,
         node_column: column,
         width: walked.count,
@@ -141,10 +151,16 @@ pub fn next_row_shape(shaper: Shaper, node: u32, entries: Entries) -> RowAnswer
         term_line,
         cells,
     };
-    let last = settled.slots;
     let dash_style = style.dash_style;
-    let columns = ended(last, walked.count, dash_style);
-    let shaper = shaper.after_row(columns, column);
+    let count_then = ended(&mut codes, walked.count, dash_style);
+    let slots_then = column::slots_of(&codes, count_then);
+    let previous_node_column = Found::At(column);
+    let shaper = Shaper {
+        slots: slots_then,
+        count: count_then,
+        previous_node_column,
+        options,
+    };
     RowAnswer {
         refusal: ACCEPTED,
         shape,

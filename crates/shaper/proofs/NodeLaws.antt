@@ -12,15 +12,15 @@ use Rattle.column.specs.declared.Column.{Column}
 use Rattle.column.specs.declared.Column.the-variants.{Blocked}
 use Rattle.column.specs.declared.Found.{Found}
 use Rattle.column.specs.declared.Found.the-variants.{At, Nothing}
-use Rattle.column.specs.declared.Slot.{Slot}
-use Rattle.column.specs.Columns.{columnLimit, isEmpty, isReserved, first, orElse, vacant, live, emptySlot, columnAt, find}
-use Rattle.column.proofs.Front.{length-front}
-use Rattle.column.proofs.Laws.{columnOf, first-below}
-use Rattle.column.proofs.Positions.{past-end, at-live}
-use Rattle.shaper.specs.declared.Shaper.{Shaper}
-use Rattle.shaper.specs.Shaper.{heightLimit, View, viewOf}
+use Rattle.column.specs.Columns.{columnLimit, isEmpty, isReserved, first, orElse, vacant, live, find}
+use Rattle.column.proofs.Laws.{first-below}
+use Rattle.column.proofs.Positions.{past-end}
+use Rattle.column.proofs.CodeLaws.{code-at, code-past}
+use Rattle.column.specs.Codes.{columnIn, slotsIn}
+use Rattle.render.specs.declared.types.Options.{Options}
+use Rattle.shaper.specs.Shaper.{heightLimit, View}
 use Rattle.shaper.specs.NodeColumn.{dense, unallocated, head, staggered, nodeColumn}
-use Rattle.shaper.specs.Inner.{fitting}
+use Rattle.shaper.specs.Inner.{fitting, viewWith}
 
 -- ---- whether staggering counts, by the code's test
 pub not-dense : (b : Bool) (h : ℕ) → (not b || ltb 1 h) ≡ true → (b && leb (min h heightLimit) 1) ≡ false
@@ -32,39 +32,33 @@ is-dense false h e = let z : _≡_ {A = ℕ} 0 1 = cc in absurd (omega arith)
 is-dense true h e = le-leb (min h heightLimit) 1 (omega (arith, ltb-false 1 h e))
 
 -- ---- the column of a node that none holds
-module _ (s : Shaper) where
-  abbrev asked : Bool
-  asked = not (s .options .«stagger_consecutive_disconnected_nodes») || ltb 1 (s .options .«min_row_height»)
-
-  abbrev cs : List Column
-  cs = live (s .count) (s .slots)
-
+module _ (cs : List Column) (prev : Found) (o : Options) where
   abbrev stagger : Bool
-  stagger = s .options .«stagger_consecutive_disconnected_nodes»
+  stagger = o .«stagger_consecutive_disconnected_nodes»
 
   abbrev height : ℕ
-  height = s .options .«min_row_height»
+  height = o .«min_row_height»
 
-  pub unallocated-plain : (r : ℕ) → asked ≡ true → r ≡ vacant cs → r ≡ unallocated (viewOf s)
+  abbrev asked : Bool
+  asked = not stagger || ltb 1 height
+
+  pub unallocated-plain : (r : ℕ) → asked ≡ true → r ≡ vacant cs → r ≡ unallocated (viewWith cs prev o)
   unallocated-plain r e h = rw (not-dense stagger height e) h
 
   module _ (e : asked ≡ false) where
-    pub unallocated-first : (r : ℕ) → s .«previous_node_column» ≡ Nothing → r ≡ vacant cs → r ≡ unallocated (viewOf s)
+    pub unallocated-first : (r : ℕ) → prev ≡ Nothing → r ≡ vacant cs → r ≡ unallocated (viewWith cs prev o)
     unallocated-first r p h = rw (is-dense stagger height e, p) h
 
-    module _ (p : ℕ) (f : s .«previous_node_column» ≡ At p) where
-      pub unallocated-other : (i : ℕ) → first isEmpty (set cs p Blocked) ≡ At i → i ≡ unallocated (viewOf s)
+    module _ (p : ℕ) (f : prev ≡ At p) where
+      pub unallocated-other : (i : ℕ) → first isEmpty (set cs p Blocked) ≡ At i → i ≡ unallocated (viewWith cs prev o)
       unallocated-other i q = rw (is-dense stagger height e, f, q)
 
       module _ (q : first isEmpty (set cs p Blocked) ≡ Nothing) (n : ℕ) (k : n ≡ length cs) where
-        pub unallocated-skip : p ≡ n → n + 1 ≡ unallocated (viewOf s)
+        pub unallocated-skip : p ≡ n → n + 1 ≡ unallocated (viewWith cs prev o)
         unallocated-skip h = rw (is-dense stagger height e, f, q, eq-eqb p (length cs) (h ∙ k), add-one n, k)
 
-        pub unallocated-last : (p ≡ n → ⊥) → n ≡ unallocated (viewOf s)
+        pub unallocated-last : (p ≡ n → ⊥) → n ≡ unallocated (viewWith cs prev o)
         unallocated-last h = rw (is-dense stagger height e, f, q, ne-eqb p (length cs) (λ z. h (z ∙ sym k))) k
-
-pub live-long : (n count : ℕ) (l : List Slot) → length l ≡ columnLimit → n ≡ min count columnLimit → n ≡ length (live count l)
-live-long n count l long e = rw (length-front columnOf count l, long) e
 
 pub fitting-in : (c : ℕ) → c < columnLimit → At c ≡ fitting c
 fitting-in c h = rw (lt-ltb c columnLimit h)
@@ -79,13 +73,12 @@ pub find-column-held : (r existing : Found) (i u : ℕ) → existing ≡ At i �
 find-column-held r existing i u e g = rw e g
 
 -- ---- head
-module _ (slots : List Slot) (count : ℕ) (existing : Found) (i : ℕ) (e : existing ≡ At i) (long : length slots ≡ columnLimit) where
-  pub head-out : columnLimit ≤ i → false ≡ head existing (live count slots)
-  head-out h = rw (e, past-end (live count slots) i (rw length-front (omega arith)))
+module _ (l : List ℕ) (count : ℕ) (existing : Found) (i : ℕ) (e : existing ≡ At i) where
+  pub head-out : min count (length l) ≤ i → false ≡ head existing (live count (slotsIn l))
+  head-out h = rw (e, past-end (live count (slotsIn l)) i (code-past count l i h))
 
-  pub head-in : (c : Column) (r : Bool) → i < columnLimit → c ≡ columnAt (getD slots i emptySlot) i count → r ≡ isReserved c
-      → r ≡ head existing (live count slots)
-  head-in c r h f g = rw (e, at-live count slots i (omega arith), ← f) g
+  pub head-in : (c : Column) (r : Bool) → i < min count (length l) → c ≡ columnIn (getD l i 0) → r ≡ isReserved c → r ≡ head existing (live count (slotsIn l))
+  head-in c r h f g = rw (e, code-at count l i (omega arith) (omega arith), ← f) g
 
 -- ---- the node's column is one there is, a new last one, or one past that
 vacant-in : (cs : List Column) → vacant cs ≤ suc (length cs)

@@ -1,12 +1,12 @@
 // The shaper: its state, the new shaper call, the reserving call and the node's column, after graph_to_row_shape.rs.
 ghost use mathlib.Core.Path.{_≡_};
 ghost use Rattle.column.specs.Columns.{live, orElse};
-ghost use Rattle.shaper.specs.Shaper.{viewOf, fresh, refusedOptions, Fresh, Reserves};
+ghost use Rattle.column.specs.Codes.{slotsIn};
+ghost use Rattle.shaper.specs.Shaper.{fresh, refusedOptions, Fresh, Reserves};
 ghost use Rattle.shaper.specs.NodeColumn.{unallocated, head};
-ghost use Rattle.shaper.specs.Inner.{fitting};
+ghost use Rattle.shaper.specs.Inner.{fitting, viewWith};
 use column::COLUMN_LIMIT;
 use column::Column;
-use column::Columns;
 use column::Found;
 use column::Slot;
 use render::DashStyle;
@@ -80,18 +80,63 @@ fn within_limit(column: usize) -> Found
 }
 
 // Whether the node is a head: no column held, or a Reserved one.
-pub fn is_head(slots: [Slot; COLUMN_LIMIT], count: usize, existing: Found) -> bool
-    ensures { λ r. ⌜ r ≡ head existing (live count slots) ⌝ }
+pub fn is_head(codes: &[u64], count: usize, existing: Found) -> bool
+    ensures { λ r. ⌜ r ≡ head existing (live count (slotsIn (now (codes .entry)))) ⌝ }
 {
     let Found::At(index) = existing else {
         return true;
     };
-    if COLUMN_LIMIT <= index {
+    if column::live_words(codes, count) <= index {
         return false;
     }
-    let slot = slots[index];
-    let column = slot.column_at(index, count);
+    let column = column::column_of(codes[index]);
     column.is_reserved()
+}
+
+// A column for a node that none holds.
+fn find_column_for_unallocated_node(
+    codes: &[u64],
+    count: usize,
+    options: Options,
+    previous_node_column: Found,
+) -> usize
+    ensures { λ r. ⌜ r ≡ unallocated (viewWith (live count (slotsIn (now (codes .entry)))) «previous_node_column» options) ⌝ }
+{
+    if !options.stagger_consecutive_disconnected_nodes | (1 < options.min_row_height) {
+        return column::vacant(codes, count);
+    }
+    let Found::At(skip) = previous_node_column else {
+        return column::vacant(codes, count);
+    };
+    let Found::At(index) = column::first_other_empty(codes, count, skip) else {
+        let n = column::live_words(codes, count);
+        if skip == n {
+            return n + 1;
+        }
+        return n;
+    };
+    index
+}
+
+// The node's column, where there is room for it: the one that holds its id, else another.
+pub fn find_column(
+    codes: &[u64],
+    count: usize,
+    options: Options,
+    previous_node_column: Found,
+    existing: Found,
+) -> Found
+    ensures { λ r. ⌜ r ≡ fitting (orElse existing (unallocated (viewWith (live count (slotsIn (now (codes .entry)))) «previous_node_column» options))) ⌝ }
+{
+    let Found::At(index) = existing else {
+        return within_limit(find_column_for_unallocated_node(
+            codes,
+            count,
+            options,
+            previous_node_column,
+        ));
+    };
+    within_limit(index)
 }
 
 impl Shaper {
@@ -126,13 +171,15 @@ impl Shaper {
     {
         let slots = self.slots;
         let count = self.count;
-        let Found::Nothing = column::find(slots, count, node) else {
+        let mut codes = [0u64; COLUMN_LIMIT];
+        column::write_codes(&mut codes, slots, count);
+        let Found::Nothing = column::find(&codes, count, node) else {
             return Answer {
                 refusal: ACCEPTED,
                 shaper: self,
             };
         };
-        let index = column::vacant(slots, count);
+        let index = column::vacant(&codes, count);
         if COLUMN_LIMIT <= index {
             return Answer {
                 refusal: NO_COLUMN_LEFT,
@@ -146,55 +193,6 @@ impl Shaper {
         Answer {
             refusal: ACCEPTED,
             shaper,
-        }
-    }
-
-    // A column for a node that none holds.
-    fn find_column_for_unallocated_node(self) -> usize
-        ensures { λ r. ⌜ r ≡ unallocated (viewOf self) ⌝ }
-    {
-        let slots = self.slots;
-        let count = self.count;
-        let options = self.options;
-        if !options.stagger_consecutive_disconnected_nodes | (1 < options.min_row_height) {
-            return column::vacant(slots, count);
-        }
-        let previous_node_column = self.previous_node_column;
-        let Found::At(skip) = previous_node_column else {
-            return column::vacant(slots, count);
-        };
-        let Found::At(index) = column::first_other_empty(slots, count, skip) else {
-            let n = column::live_count(count);
-            if skip == n {
-                return n + 1;
-            }
-            return n;
-        };
-        index
-    }
-
-    // The node's column, where there is room for it: the one that holds its id, else another.
-    pub fn find_column(self, existing: Found) -> Found
-        ensures { λ r. ⌜ r ≡ fitting (orElse existing (unallocated (viewOf self))) ⌝ }
-    {
-        let Found::At(index) = existing else {
-            return within_limit(self.find_column_for_unallocated_node());
-        };
-        within_limit(index)
-    }
-
-    // The shaper after a row: the columns as they are then, and the node's column.
-    pub fn after_row(self, columns: Columns, column: usize) -> Shaper
-        ensures { λ r. ⌜ r ≡ record { slots = columns .slots; count = columns .count; «previous_node_column» = Found.At column; options = self .options } ⌝ }
-    {
-        let slots = columns.slots;
-        let previous_node_column = Found::At(column);
-        let options = self.options;
-        Shaper {
-            slots,
-            count: columns.count,
-            previous_node_column,
-            options,
         }
     }
 }

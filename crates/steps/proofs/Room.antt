@@ -2,7 +2,7 @@
 use mathlib.Core.Path.{_≡_, refl, sym, ap, _∙_}
 use mathlib.Core.Logic.{_≢_}
 use mathlib.Core.Bool.{Bool, true, false, cond, not, _||_}
-use mathlib.Core.List.{List, _∷_, _++_}
+use mathlib.Core.List.{List, _∷_, _++_, map}
 use Prim.Native.Nat.{ℕ, zero, suc, _+_, _*_, _-_, _≤_, max}
 use native.Mathlib.Omega.{arith}
 use borrow.Author.Tests.{le-ltb, eqb-true}
@@ -33,10 +33,10 @@ use Rattle.output.specs.declared.TextState.{TextState}
 use Rattle.output.specs.Output.{queueLimit, ended, textOf, TextView, textViewOf, beginRow}
 use Rattle.output.proofs.PutLaws.{begin-short}
 use Rattle.text.specs.Text.{rowLines, textLines, textAfter, textChecks, textAnswer, text}
-use Rattle.text.specs.Inner.{lineText, drawn, spread, lineTimes, planOf, drawnOf}
-use Rattle.text.proofs.RepeatLaws.{drawn-short}
+use Rattle.text.specs.Inner.{prefixText, drawn, spread, lineTimes, planOf, drawnOf}
+use Rattle.text.proofs.RepeatLaws.{short-map, drawn-short}
 use Rattle.text.proofs.RowTextLaws.{rows-same, height-same, length-drawn, fixed-small}
-use Rattle.text.proofs.TextLineLaws.{line-short}
+use Rattle.text.proofs.TextLineLaws.{prefix-short}
 
 -- a table for each renderer: a count and eight places for each glyph
 abbrev tableOf : Renderer → List ℕ
@@ -59,15 +59,16 @@ module _ (q : Renderer) (g : RowShape) (mark : ℕ) (m : List ℕ) (height : ℕ
 
   rows-short : length (textOf (rowLines q g mark (linesOf m) height)) ≤ 1026 * (6 + max (length m) height)
   rows-short =
-      let f : Line → List ℕ → List ℕ = lineText (entry table) (drawnOf g q mark) in
-      let e : drawn f shown m ≡ rowLines q g mark (linesOf m) height = rows-same q g mark table (table-draws q) m height in
-      let n : length shown ≡ length (rowLines q g mark (linesOf m) height) = sym (length-drawn f shown m) ∙ ap length e in
+      let f : Line → List ℕ = prefixText (entry table) (drawnOf g q mark) in
+      let h : (l : Line) → length (f l) ≤ 512 = λ l. omega (arith, fits, prefix-short (entry table) (drawnOf g q mark) l (entry-short table)) in
+      let e : drawn (map f shown) m ≡ rowLines q g mark (linesOf m) height = rows-same q g mark table (table-draws q) m height in
+      let n : length (map f shown) ≡ length (rowLines q g mark (linesOf m) height) = sym (length-drawn (map f shown) m) ∙ ap length e in
       omega (
         arith,
         ap (λ (l : List (List ℕ)). length (textOf l)) e,
         n,
         height-same q g mark table (table-draws q) m height,
-        drawn-short f (λ (l : Line). line-short (entry table) (drawnOf g q mark) l (entry-short table) fits) shown m short,
+        drawn-short 512 (map f shown) (short-map 512 f h shown) m,
         fixed-small q (rowOf g),
         lines-few m,
       )

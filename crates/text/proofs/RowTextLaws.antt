@@ -2,13 +2,13 @@
 use mathlib.Core.Path.{_≡_, refl, sym, ap, ap₂, _∙_, fun-ext}
 use mathlib.Core.Bool.{Bool, true, false, cond, not, _&&_, _||_}
 use mathlib.Core.List.{List, [], _∷_, _++_, map}
-use Prim.Native.Nat.{ℕ, zero, suc, _+_, _-_, _<_, _≤_, max, zero-le}
+use Prim.Native.Nat.{ℕ, zero, suc, _+_, _-_, _*_, _<_, _≤_, max}
 use native.Mathlib.Nat.{zero-add}
 use native.Mathlib.Omega.{arith}
-use borrow.Author.Tests.{lt-ltb, le-ltb}
-use lib.Dec.{eqb, ltb, lit≤}
-use lib.ListN.{length, take, drop, replicate, length-append, length-take, length-map, length-replicate}
-use lib.Seq.{take-all, take-append-seam}
+use borrow.Author.Tests.{lt-ltb, le-ltb, le-leb, leb-true, leb-false}
+use lib.Dec.{eqb, ltb, leb, lit≤}
+use lib.ListN.{length, take, drop, replicate, length-append, length-map}
+use lib.Seq.{take-at, length-take-le}
 use Rattle.column.specs.Columns.{columnLimit}
 use Rattle.render.specs.declared.types.LinkLinePlacement.{LinkLinePlacement}
 use Rattle.render.specs.declared.types.LinkLinePlacement.the-variants.{Top, Bottom}
@@ -24,17 +24,21 @@ use Rattle.glyphs.specs.Inner.{entry, Draws, cellBytes, cellsText}
 use Rattle.glyphs.specs.Joins.{over}
 use Rattle.glyphs.specs.Row.{rowOf}
 use Rattle.glyphs.proofs.CellLaws.{joins-from}
+use Rattle.glyphs.proofs.JoinLaws.{joins-append}
+use Rattle.glyphs.proofs.TableLaws.{entry-short}
 use Rattle.message.specs.Message.{linesOf, otherLines, messageLimit}
 use Rattle.message.proofs.MessageLaws.{lines-few}
 use Rattle.output.specs.declared.Put.{Put}
 use Rattle.output.specs.declared.TextState.{TextState}
-use Rattle.output.specs.Output.{finish, textOf, lineMeasure, TextView, textViewOf, beginRow, Puts}
+use Rattle.output.specs.Output.{queueLimit, ended, textOf, lineMeasure, TextView, textViewOf, beginRow, Puts}
+use Rattle.output.proofs.PutLaws.{begin-short}
 use Rattle.text.specs.declared.prefix_lines_to_text.Drawn.{Drawn}
 use Rattle.text.specs.declared.prefix_lines_to_text.Plan.{Plan}
 use Rattle.text.specs.declared.prefix_lines_to_text.RowText.{RowText}
 use Rattle.text.specs.Text.{isRepeatable, isBottom, times, needed, repeated, beside, prefix, rowLines, queues, textAfter, textLines}
-use Rattle.text.specs.Inner.{prefixText, lineText, drawn, spread, one, lineTimes, fixedLines, planOf, stateAfter, drawnOf, RowTexts}
-use Rattle.text.proofs.RepeatLaws.{drawn-beside, spread-length}
+use Rattle.text.specs.Inner.{prefixText, lineWith, drawn, spread, one, lineTimes, fixedLines, planOf, allPut, mostBytes, stateAfter, drawnOf, RowTexts}
+use Rattle.text.proofs.RepeatLaws.{drawn-beside, spread-length, map-append, map-times, short-map, drawn-short}
+use Rattle.text.proofs.TextLineLaws.{prefix-short}
 
 -- ---- the text state after a row
 both-not : (a b c : Bool) → (not a || not b) ≡ c → (a && b) ≡ not c
@@ -50,13 +54,13 @@ module _ (glyphs : ℕ → List ℕ) (d : Drawn) (p : Plan) (foot : ℕ) (q : fo
       → textViewOf (record { «queued_pad_line» = l; «queued_length» = 0; «is_queued» = false; «row_height» = p .fixed + p .needed }) ≡ stateAfter glyphs d p
   state-plain l e = rw (waits true e) refl
 
-  pub state-queued : (l o : List ℕ) (n : ℕ) → (not (d .row .«term_line») || not (eqb foot 0)) ≡ false → length (prefixText glyphs d PostAncestry) ≤ 512
-      → n ≡ length (take 512 (prefixText glyphs d PostAncestry)) → o ≡ over (take 512 (prefixText glyphs d PostAncestry)) l
+  pub state-queued : (l o x : List ℕ) (n : ℕ) → (not (d .row .«term_line») || not (eqb foot 0)) ≡ false → n ≤ length x → take n x ≡ prefixText glyphs d PostAncestry
+      → o ≡ over (take (n - 0) (drop 0 x)) l
       → textViewOf (record { «queued_pad_line» = o; «queued_length» = n; «is_queued» = true; «row_height» = p .fixed + p .needed }) ≡ stateAfter glyphs d p
-  state-queued l o n e h f g =
-      let x : List ℕ = prefixText glyphs d PostAncestry in
-      let t : take 512 x ≡ x = take-all 512 x h in
-      let s : take n o ≡ x = rw (g, f, t) (take-append-seam x (drop (length x) l)) in
+  state-queued l o x n e h f g =
+      let z : n - 0 ≡ n = omega arith in
+      let k : length (take n x) ≡ n = length-take-le n x h in
+      let s : take n o ≡ prefixText glyphs d PostAncestry = rw (rw z at g) (take-at (take n x) (drop (length (take n x)) l) n k) ∙ f in
       rw (waits false e, s) refl
 
 -- ---- which lines there are, and how often
@@ -78,22 +82,40 @@ spread-kept t b (l ∷ ls) = go (b l) (spread-kept t b ls)
     go true e = ap (λ (x : List Line). replicate (t l) l ++ x) e
     go false e = e
 
-map-append : {A B : Type 0} (h : A → B) (xs ys : List A) → map h (xs ++ ys) ≡ map h xs ++ map h ys
-map-append h [] ys = refl
-map-append h (x ∷ xs) ys = ap (λ (l : List _). h x ∷ l) (map-append h xs ys)
-
-map-times : {A B : Type 0} (h : A → B) (n : ℕ) (x : A) → map h (replicate n x) ≡ replicate n (h x)
-map-times h zero x = refl
-map-times h (suc n) x = ap (λ (l : List _). h x ∷ l) (map-times h n x)
-
 repeated-map : (t : PrefixLine → ℕ) (h : Line → PrefixLine) (ls : List Line) → repeated t (map h ls) ≡ map h (spread (λ (l : Line). t (h l)) ls)
 repeated-map t h [] = refl
 repeated-map t h (l ∷ ls) =
     ap₂ _++_ (sym (map-times h (t (h l)) l)) (repeated-map t h ls) ∙ sym (map-append h (replicate (t (h l)) l) (spread (λ (l : Line). t (h l)) ls))
 
-pub length-drawn : (f : Line → List ℕ → List ℕ) (ls : List Line) (m : List ℕ) → length (drawn f ls m) ≡ length ls
-length-drawn f [] m = refl
-length-drawn f (l ∷ ls) m = ap suc (length-drawn f ls (otherLines m))
+map-same : {A B C : Type 0} (h : A → B) (g : B → C) (f : A → C) → ((x : A) → g (h x) ≡ f x) → (xs : List A) → map g (map h xs) ≡ map f xs
+map-same h g f e [] = refl
+map-same h g f e (x ∷ xs) = ap₂ _∷_ (e x) (map-same h g f e xs)
+
+pub length-drawn : (ps : List (List ℕ)) (m : List ℕ) → length (drawn ps m) ≡ length ps
+length-drawn [] m = refl
+length-drawn (p ∷ ps) m = ap suc (length-drawn ps (otherLines m))
+
+-- a row has its fixed lines and those that are needed beyond them
+spread-count : (q : Renderer) (r : Row) (p : LinkLinePlacement) (n : ℕ) → length (spread (λ (l : Line). cond (isPresent q r l) (times p n l) 0) allLines) ≡ fixedLines q r + n
+spread-count q r p n =
+    let s = spread-length (λ (l : Line). cond (isPresent q r l) (times p n l) 0) in
+    omega (
+      arith,
+      s PreNode (Node ∷ PostNode ∷ Link ∷ SecondLink ∷ Term ∷ SecondTerm ∷ Ancestry ∷ PostAncestry ∷ []),
+      s Node (PostNode ∷ Link ∷ SecondLink ∷ Term ∷ SecondTerm ∷ Ancestry ∷ PostAncestry ∷ []),
+      s PostNode (Link ∷ SecondLink ∷ Term ∷ SecondTerm ∷ Ancestry ∷ PostAncestry ∷ []),
+      s Link (SecondLink ∷ Term ∷ SecondTerm ∷ Ancestry ∷ PostAncestry ∷ []),
+      s SecondLink (Term ∷ SecondTerm ∷ Ancestry ∷ PostAncestry ∷ []),
+      s Term (SecondTerm ∷ Ancestry ∷ PostAncestry ∷ []),
+      s SecondTerm (Ancestry ∷ PostAncestry ∷ []),
+      s Ancestry (PostAncestry ∷ []),
+      s PostAncestry [],
+      either p n,
+    )
+  where
+    either : (p : LinkLinePlacement) (n : ℕ) → cond (isBottom p) n 0 + cond (isBottom p) 0 n ≡ n
+    either Top n = omega arith
+    either Bottom n = omega arith
 
 -- ---- the lines of a shape
 module _ (q : Renderer) (g : RowShape) where
@@ -124,10 +146,6 @@ module _ (q : Renderer) (g : RowShape) where
         ap (λ (f : ℕ → List ℕ). cellsText f q (rowOf g) mark (cellsOf g) l) (fun-ext dr)
         ∙ joins-from (bytesOf (glyphsOf q) q (g .style .«dash_style») mark) (choiceOf q (rowOf g) l) 0 (cellsOf g)
 
-    line-same : (l : Line) (p : List ℕ) → finish (prefix q g mark (lineOf q g l) ++ (0x20 ∷ p)) ≡ lineText (entry table) (drawnOf g q mark) l p
-    unfolding lineText
-    line-same l p = ap (λ (x : List ℕ). finish (x ++ (0x20 ∷ p))) (sym (prefix-same l))
-
     module _ (m : List ℕ) (height : ℕ) where
       abbrev plan : Plan
       plan = planOf (g .style .«link_line_placement») q (rowOf g) (length (linesOf m)) height
@@ -139,39 +157,20 @@ module _ (q : Renderer) (g : RowShape) where
           (repeated-map (λ (l : PrefixLine). times (g .style .«link_line_placement») (plan .needed) (l .kind)) (lineOf q g) (keep (isPresent q (rowOf g)) allLines)
           ∙ ap (map (lineOf q g)) (spread-kept (λ (l : Line). times (g .style .«link_line_placement») (plan .needed) l) (isPresent q (rowOf g)) allLines))
 
-      pub rows-same : drawn (lineText (entry table) (drawnOf g q mark)) (spread (lineTimes plan q (rowOf g)) allLines) m ≡ rowLines q g mark (linesOf m) height
+      pub rows-same : drawn (map (prefixText (entry table) (drawnOf g q mark)) (spread (lineTimes plan q (rowOf g)) allLines)) m ≡ rowLines q g mark (linesOf m) height
       rows-same =
-          sym (ap (λ (ls : List PrefixLine). map (λ (x : PrefixLine × List ℕ). finish (prefix q g mark (x .0) ++ (0x20 ∷ x .1))) (beside ls (linesOf m))) shown-same
-          ∙ drawn-beside (lineText (entry table) (drawnOf g q mark)) (lineOf q g) (λ (l : PrefixLine) (p : List ℕ). finish (prefix q g mark l ++ (0x20 ∷ p))) line-same
-          (spread (lineTimes plan q (rowOf g)) allLines) m)
+          sym (ap (λ (ls : List PrefixLine). map (λ (x : PrefixLine × List ℕ). lineWith (prefix q g mark (x .0)) (x .1)) (beside ls (linesOf m))) shown-same
+          ∙ drawn-beside (prefix q g mark) (map (lineOf q g) (spread (lineTimes plan q (rowOf g)) allLines)) m
+          ∙ ap (λ (ps : List (List ℕ)). drawn ps m)
+          (map-same (lineOf q g) (prefix q g mark) (prefixText (entry table) (drawnOf g q mark)) (λ l. sym (prefix-same l)) (spread (lineTimes plan q (rowOf g)) allLines)))
 
-      -- a row has its fixed lines and those that are needed beyond them
       pub height-same : length (rowLines q g mark (linesOf m) height) ≡ plan .fixed + plan .needed
       height-same =
+          let ls : List Line = spread (lineTimes plan q (rowOf g)) allLines in
           ap length (sym rows-same)
-          ∙ length-drawn (lineText (entry table) (drawnOf g q mark)) (spread (lineTimes plan q (rowOf g)) allLines) m
-          ∙ counted (g .style .«link_line_placement») (plan .needed)
-        where
-          counted : (p : LinkLinePlacement) (n : ℕ) → length (spread (λ (l : Line). cond (isPresent q (rowOf g) l) (times p n l) 0) allLines) ≡ fixedLines q (rowOf g) + n
-          counted p n =
-              let s = spread-length (λ (l : Line). cond (isPresent q (rowOf g) l) (times p n l) 0) in
-              omega (
-                arith,
-                s PreNode (Node ∷ PostNode ∷ Link ∷ SecondLink ∷ Term ∷ SecondTerm ∷ Ancestry ∷ PostAncestry ∷ []),
-                s Node (PostNode ∷ Link ∷ SecondLink ∷ Term ∷ SecondTerm ∷ Ancestry ∷ PostAncestry ∷ []),
-                s PostNode (Link ∷ SecondLink ∷ Term ∷ SecondTerm ∷ Ancestry ∷ PostAncestry ∷ []),
-                s Link (SecondLink ∷ Term ∷ SecondTerm ∷ Ancestry ∷ PostAncestry ∷ []),
-                s SecondLink (Term ∷ SecondTerm ∷ Ancestry ∷ PostAncestry ∷ []),
-                s Term (SecondTerm ∷ Ancestry ∷ PostAncestry ∷ []),
-                s SecondTerm (Ancestry ∷ PostAncestry ∷ []),
-                s Ancestry (PostAncestry ∷ []),
-                s PostAncestry [],
-                either p n,
-              )
-            where
-              either : (p : LinkLinePlacement) (n : ℕ) → cond (isBottom p) n 0 + cond (isBottom p) 0 n ≡ n
-              either Top n = omega arith
-              either Bottom n = omega arith
+          ∙ length-drawn (map (prefixText (entry table) (drawnOf g q mark)) ls) m
+          ∙ length-map ls (prefixText (entry table) (drawnOf g q mark))
+          ∙ spread-count q (rowOf g) (g .style .«link_line_placement») (plan .needed)
 
       pub state-same : stateAfter (entry table) (drawnOf g q mark) plan ≡ textAfter q g mark (linesOf m) height
       state-same =
@@ -193,8 +192,26 @@ pub needed-small : (p : LinkLinePlacement) (q : Renderer) (r : Row) (m : List �
     → planOf p q r (length (linesOf m)) height .needed ≤ 512
 needed-small p q r m height h k = omega (arith, lines-few m)
 
+-- ---- how long all lines can be
+module _ (table : List ℕ) (d : Drawn) (p : Plan) (m : List ℕ) (t : TextState) (b : Bool) (fixed : p .fixed ≡ fixedLines (d .renderer) (d .row)) (long : length (t .«queued_pad_line») ≡ queueLimit) where
+  abbrev all : List (List ℕ)
+  all = allPut (entry table) d p m (textViewOf t) b
+
+  pub all-short : length (textOf all) ≤ mostBytes p (d .width) (length m)
+  all-short =
+      let ls : List Line = spread (lineTimes p (d .renderer) (d .row)) allLines in
+      let f : Line → List ℕ = prefixText (entry table) d in
+      let n : length (map f ls) ≡ p .fixed + p .needed = length-map ls f ∙ spread-count (d .renderer) (d .row) (p .placement) (p .needed) ∙ ap (λ (k : ℕ). k + p .needed) (sym fixed) in
+      let s = rw n at (drawn-short (8 * d .width) (map f ls) (short-map (8 * d .width) f (λ l. prefix-short (entry table) d l (entry-short table)) ls) m) in
+      rw (joins-append ended (beginRow b (textViewOf t)) (drawn (map f ls) m), length-append (textOf (beginRow b (textViewOf t))) (textOf (drawn (map f ls) m)))
+      (omega (arith, s, begin-short b t long))
+
+  -- an output that is longer has room for them
+  pub room-there : (n size : ℕ) → n ≡ mostBytes p (d .width) (length m) → n ≤ size → true ≡ leb (length (textOf all)) size
+  room-there n size e h = sym (le-leb (length (textOf all)) size (omega (arith, all-short, e)))
+
 -- ---- written, or not for want of room
-empty-front : (l o : List ℕ) → length l ≡ 0 → l ++ o ≡ o
+pub empty-front : (l o : List ℕ) → length l ≡ 0 → l ++ o ≡ o
 empty-front [] o e = refl
 empty-front (x ∷ l) o e = absurd (omega (arith, e))
 
@@ -203,38 +220,45 @@ module _ (t : TextState) (q : Renderer) (g : RowShape) (mark : ℕ) (m : List �
   plan-is : p ≡ planOf (g .style .«link_line_placement») q (rowOf g) (length (linesOf m)) height
   plan-is = pe ∙ rw (de, ne) refl
 
-  pub plan-small : g .width ≤ columnLimit → length m ≤ messageLimit → height ≤ heightLimit → (d .width ≤ columnLimit) × (p .fixed ≤ 6) × (p .needed ≤ messageLimit)
-  plan-small w h k =
-      (rw de w, rw plan-is (fixed-small q (rowOf g)), rw plan-is (needed-small (g .style .«link_line_placement») q (rowOf g) m height h k))
+  pub plan-small : g .width ≤ columnLimit → length m ≤ messageLimit → height ≤ heightLimit
+      → (d .width ≤ columnLimit) × (p .fixed ≤ 6) × (p .needed ≤ messageLimit) × (p .fixed ≡ fixedLines (d .renderer) (d .row))
+  plan-small w h k = (
+    rw de w,
+    rw plan-is (fixed-small q (rowOf g)),
+    rw plan-is (needed-small (g .style .«link_line_placement») q (rowOf g) m height h k),
+    rw (plan-is, de) refl,
+  )
 
   abbrev put : List (List ℕ)
-  put = beginRow (g .«separator_line») (textViewOf t) ++ drawn (lineText (entry table) d) (spread (lineTimes p (d .renderer) (d .row)) allLines) m
+  put = allPut (entry table) d p m (textViewOf t) (g .«separator_line»)
 
   put-same : put ≡ textLines (textViewOf t) q g mark (linesOf m) height
   put-same = rw (plan-is, de) (ap (λ (x : List (List ℕ)). beginRow (g .«separator_line») (textViewOf t) ++ x) (rows-same q g mark table dr m height))
 
-  module _ (before l : List ℕ) (none : length l ≡ 0) (r : RowText) where
-    pub no-room : (c : ℕ) → c ≡ length (textOf put) → length before < c → r .refusal ≡ 8 → RowTexts (textViewOf t) q g mark m height before (l ++ before) r
-    no-room c e h f =
-        let k : length before < length (textOf (textLines (textViewOf t) q g mark (linesOf m) height)) = rw (← put-same, ← e) h in
+  module _ (before : List ℕ) (r : RowText) {fits : Bool} (f : fits ≡ leb (length (textOf put)) (length before)) where
+    abbrev wanted : List (List ℕ)
+    wanted = textLines (textViewOf t) q g mark (linesOf m) height
+
+    pub no-room : (after : List ℕ) → after ≡ before → fits ≡ false → r .refusal ≡ 8 → RowTexts (textViewOf t) q g mark m height before after r
+    no-room after same z e =
+        let k : length before < length (textOf wanted) = rw put-same at (leb-false (length (textOf put)) (length before) (sym f ∙ z)) in
         record {
-          refusal = f ∙ rw (lt-ltb (length before) (length (textOf (textLines (textViewOf t) q g mark (linesOf m) height))) k) refl;
-          kept = λ z. empty-front l before none;
-          written = λ z. absurd (omega (arith, f, z));
+          refusal = e ∙ rw (lt-ltb (length before) (length (textOf wanted)) k) refl;
+          kept = λ w. same;
+          written = λ w. absurd (omega (arith, e, w));
         }
 
-    pub room : (after : List ℕ) (c : ℕ) (s : Put) → c ≡ length (textOf put) → c ≤ length before → Puts put 0 (l ++ before) after s
+    pub room : (same after : List ℕ) (s : Put) → same ≡ before → fits ≡ true → Puts put 0 same after s
         → r .refusal ≡ 0 → r .length ≡ s .length → r .measure ≡ s .measure → textViewOf (r .state) ≡ stateAfter (entry table) d p
         → RowTexts (textViewOf t) q g mark m height before after r
-    room after c s e h u f a b w =
-        let same = put-same in
-        let k : length (textOf (textLines (textViewOf t) q g mark (linesOf m) height)) ≤ length before = rw (← same, ← e) h in
-        let v : Puts (textLines (textViewOf t) q g mark (linesOf m) height) 0 before after s = rw (same, empty-front l before none) at u in
-        let y : 0 + length (textOf (textLines (textViewOf t) q g mark (linesOf m) height)) ≤ length before = omega arith in
+    room same after s u z v e a b w =
+        let k : length (textOf wanted) ≤ length before = rw put-same at (leb-true (length (textOf put)) (length before) (sym f ∙ z)) in
+        let x : Puts wanted 0 before after s = rw (put-same, u) at v in
+        let y : 0 + length (textOf wanted) ≤ length before = omega arith in
         record {
-          refusal = f ∙ rw (le-ltb (length before) (length (textOf (textLines (textViewOf t) q g mark (linesOf m) height))) k) refl;
-          kept = λ z. absurd (z f);
-          written = λ z. (a ∙ v .count, b ∙ v .measure y, v .bytes y ∙ from-zero (textOf (textLines (textViewOf t) q g mark (linesOf m) height)) before, w ∙ rw (plan-is, de) (state-same q g mark table dr m height));
+          refusal = e ∙ rw (le-ltb (length before) (length (textOf wanted)) k) refl;
+          kept = λ w. absurd (w e);
+          written = λ o. (a ∙ x .count, b ∙ x .measure y, x .bytes y ∙ from-zero (textOf wanted) before, w ∙ rw (plan-is, de) (state-same q g mark table dr m height));
         }
       where
         from-zero : (bs o : List ℕ) → take 0 o ++ (bs ++ drop (0 + length bs) o) ≡ over bs o

@@ -1,8 +1,8 @@
 -- What the inner functions of text give.
-use Prim.Native.Nat.{ℕ, _+_, _-_, _≤_, max}
+use Prim.Native.Nat.{ℕ, _+_, _-_, _*_, _≤_, max}
 use mathlib.Core.Path.{_≡_}
 use mathlib.Core.Bool.{Bool, cond, not, _&&_, _||_}
-use mathlib.Core.List.{List, [], _∷_, _++_}
+use mathlib.Core.List.{List, [], _∷_, _++_, map}
 use lib.Dec.{eqb, ltb}
 use lib.ListN.{length, take, drop, replicate}
 use Rattle.render.specs.declared.types.LinkLinePlacement.{LinkLinePlacement}
@@ -18,8 +18,7 @@ use Rattle.glyphs.specs.Joins.{over}
 use Rattle.glyphs.specs.Row.{rowOf}
 use Rattle.message.specs.Message.{linesOf, firstLine, otherLines}
 use Rattle.output.specs.declared.Put.{Put}
-use Rattle.output.specs.Output.{finish, textOf, lineMeasure, TextView, textViewOf, Puts}
-use Rattle.text.specs.declared.lines.Span.{Span}
+use Rattle.output.specs.Output.{finish, textOf, lineMeasure, TextView, textViewOf, beginRow, Puts}
 use Rattle.text.specs.declared.prefix_lines_to_text.Drawn.{Drawn}
 use Rattle.text.specs.declared.prefix_lines_to_text.Plan.{Plan}
 use Rattle.text.specs.declared.prefix_lines_to_text.RowPut.{RowPut}
@@ -32,29 +31,21 @@ use Rattle.text.specs.Text.{isBottom, times, textLines, textAfter}
 unfoldable pub prefixText : (ℕ → List ℕ) → Drawn → Line → List ℕ
 prefixText glyphs d l = cellsText glyphs (d .renderer) (d .row) (d .mark) (take (d .width) (d .cells)) l
 
--- with a message line, finished
-unfoldable pub lineText : (ℕ → List ℕ) → Drawn → Line → List ℕ → List ℕ
-lineText glyphs d l part = finish (prefixText glyphs d l ++ (blank ∷ part))
-
--- a span with one more glyph, whose own length and trimmed length are given
-abbrev pub longer : Span → ℕ → ℕ → Span
-longer s n t = record { full = s .full + n; trimmed = cond (eqb t 0) (s .trimmed) (s .full + t) }
-
--- the finished length of a line whose message line has m bytes without the blanks at its end
-abbrev pub finishedLength : Span → ℕ → ℕ
-finishedLength s m = cond (eqb m 0) (s .trimmed) (s .full + 1 + m)
+-- a prefix line with a message line, finished
+abbrev pub lineWith : List ℕ → List ℕ → List ℕ
+lineWith prefix part = finish (prefix ++ (blank ∷ part))
 
 -- ---- lines with the lines of a message
 
--- each line with the next message line
-abbrev pub drawn : (Line → List ℕ → List ℕ) → List Line → List ℕ → List (List ℕ)
-drawn f [] m = []
-drawn f (l ∷ ls) m = f l (firstLine m) ∷ drawn f ls (otherLines m)
+-- each prefix line with the next message line
+abbrev pub drawn : List (List ℕ) → List ℕ → List (List ℕ)
+drawn [] m = []
+drawn (p ∷ ps) m = lineWith p (firstLine m) ∷ drawn ps (otherLines m)
 
 -- what is left of the message behind them
-abbrev pub leftOver : List Line → List ℕ → List ℕ
+abbrev pub leftOver : List (List ℕ) → List ℕ → List ℕ
 leftOver [] m = m
-leftOver (l ∷ ls) m = leftOver ls (otherLines m)
+leftOver (p ∷ ps) m = leftOver ps (otherLines m)
 
 -- each line so many times
 abbrev pub spread : (Line → ℕ) → List Line → List Line
@@ -77,10 +68,19 @@ abbrev pub planOf : LinkLinePlacement → Renderer → Row → ℕ → ℕ → P
 planOf p q r count height = record { placement = p; fixed = fixedLines q r; needed = max count height - fixedLines q r }
 
 -- lines put from `at` on, and where the next message line starts
-pub record RowPuts (f : Line → List ℕ → List ℕ) (ls : List Line) (message : List ℕ) (start at : ℕ) (before after : List ℕ) (r : RowPut) : Type 0 where
-  pub put : Puts (drawn f ls (drop start message)) at before after (record { length = r .length; measure = r .measure })
-  pub next : drop (r .next) message ≡ leftOver ls (drop start message)
+pub record RowPuts (ps : List (List ℕ)) (message : List ℕ) (start at : ℕ) (before after : List ℕ) (r : RowPut) : Type 0 where
+  pub put : Puts (drawn ps (drop start message)) at before after (record { length = r .length; measure = r .measure })
+  pub next : drop (r .next) message ≡ leftOver ps (drop start message)
   pub within : r .next ≤ length message
+
+-- all lines of a call
+abbrev pub allPut : (ℕ → List ℕ) → Drawn → Plan → List ℕ → TextView → Bool → List (List ℕ)
+allPut glyphs d p message t separator =
+    beginRow separator t ++ drawn (map (prefixText glyphs d) (spread (lineTimes p (d .renderer) (d .row)) allLines)) message
+
+-- how many bytes they have at most: of each line eight for each cell, the blank and the end, the message, and 514 above the row
+abbrev pub mostBytes : Plan → ℕ → ℕ → ℕ
+mostBytes p width message = (p .fixed + p .needed) * (8 * width + 2) + message + 514
 
 -- the text state after a row
 abbrev pub stateAfter : (ℕ → List ℕ) → Drawn → Plan → TextView

@@ -1,34 +1,36 @@
 // A row's lines with its message, after prefix_lines_to_text.rs.
 ghost use mathlib.Core.Path.{_≡_};
 ghost use mathlib.Core.Bool.{cond};
-ghost use mathlib.Core.List.{_++_};
-ghost use Prim.Native.Nat.{_-_, _≤_};
-ghost use lib.ListN.{length, replicate};
+ghost use mathlib.Core.List.{map};
+ghost use Prim.Native.Nat.{_-_, _<_, _≤_};
+ghost use lib.Dec.{leb};
+ghost use lib.ListN.{length, take, replicate};
 ghost use Rattle.column.specs.Columns.{columnLimit};
 ghost use Rattle.glyphs.specs.Cells.{allLines};
 ghost use Rattle.glyphs.specs.Inner.{entry};
 ghost use Rattle.message.specs.Message.{messageLimit};
-ghost use Rattle.output.specs.Output.{textViewOf, beginRow, Puts};
+ghost use Rattle.output.specs.Output.{queueLimit, textOf, textViewOf, Puts};
 ghost use Rattle.shaper.specs.Shaper.{heightLimit};
 ghost use Rattle.text.specs.Text.{isBottom, times as timesOf};
-ghost use Rattle.text.specs.Inner.{lineText, drawn as drawnLines, spread, one, fixedLines, planOf, lineTimes, stateAfter, drawnOf, RowPuts, RowTexts};
+ghost use Rattle.text.specs.Inner.{prefixText, drawn as drawnLines, spread, one, fixedLines, planOf, lineTimes, allPut, mostBytes, stateAfter, drawnOf, RowPuts, RowTexts};
 use crate::lines::put_text_line;
-use crate::lines::write_cells;
 use column::COLUMN_LIMIT;
+use glyphs::DRAWN;
 use glyphs::LINES;
 use glyphs::Line;
 use glyphs::Renderer;
 use glyphs::Row;
 use glyphs::TABLE;
-use glyphs::glyph_table;
+use glyphs::copy_bytes;
+use glyphs::draw_cells;
 use glyphs::is_present;
 use glyphs::line_at;
 use glyphs::row_of;
+use glyphs::write_table;
 use message::line_count;
 use message::line_end;
 use message::next_start;
 use output::Put;
-use output::QUEUE_LIMIT;
 use output::TextState;
 use output::begin_row;
 use output::greater;
@@ -163,19 +165,46 @@ fn times(plan: Plan, renderer: Renderer, row: Row, line: Line) -> usize
     repeats(placement, plan.needed, line)
 }
 
-// Puts a line so many times from `at` on, each time with the next message line.
-fn put_repeated(
-    out: &mut [u8],
-    at: usize,
+// Draws a line that is written so often, and gives the count of its bytes.
+fn draw_line(
+    scratch: &mut [u8],
     table: &[u8; TABLE],
     drawn: Drawn,
     line: Line,
     times: usize,
+) -> usize
+    requires { ⌜ (drawn .width ≤ columnLimit) × (length (now scratch) ≡ 520) ⌝ }
+    ensures { λ r. ⌜ (r ≤ queueLimit) × (0 < times → take r (now (scratch .exit)) ≡ prefixText (entry (now (table .entry))) drawn line) ⌝ }
+{
+    if times == 0 {
+        return 0;
+    }
+    let renderer = drawn.renderer;
+    let row = drawn.row;
+    let cells = drawn.cells;
+    draw_cells(
+        scratch,
+        table,
+        renderer,
+        row,
+        drawn.mark,
+        line,
+        cells,
+        drawn.width,
+    )
+}
+
+// Puts a prefix line so many times from `at` on, each time with the next message line.
+fn put_repeated(
+    out: &mut [u8],
+    at: usize,
+    prefix: &[u8],
+    times: usize,
     message: &[u8],
     start: usize,
 ) -> RowPut
-    requires { ⌜ (drawn .width ≤ columnLimit) × (length (now message) ≤ messageLimit) × (start ≤ length (now message)) × (times ≤ messageLimit) × (at ≤ 10000000) ⌝ }
-    ensures { λ r. ⌜ RowPuts (lineText (entry (now (table .entry))) drawn) (replicate times line) (now (message .entry)) start at (now (out .entry)) (now (out .exit)) r ⌝ }
+    requires { ⌜ (length (now prefix) ≤ queueLimit) × (length (now message) ≤ messageLimit) × (start ≤ length (now message)) × (times ≤ messageLimit) × (at ≤ 10000000) ⌝ }
+    ensures { λ r. ⌜ RowPuts (replicate times (now (prefix .entry))) (now (message .entry)) start at (now (out .entry)) (now (out .exit)) r ⌝ }
 {
     let mut length: usize = 0;
     let mut measure: usize = 0;
@@ -183,7 +212,7 @@ fn put_repeated(
     let mut i: usize = 0;
     while i < times {
         let end = line_end(message, next);
-        let put = put_text_line(out, at + length, table, drawn, line, &message[next..end]);
+        let put = put_text_line(out, at + length, prefix, &message[next..end]);
         length += put.length;
         measure = greater(measure, put.measure);
         next = next_start(message, end);
@@ -196,7 +225,7 @@ fn put_repeated(
     }
 }
 
-// Puts a row's lines with its message from `at` on.
+// Puts a row's lines with its message from `at` on, each drawn once.
 fn put_row(
     out: &mut [u8],
     at: usize,
@@ -206,10 +235,11 @@ fn put_row(
     message: &[u8],
 ) -> Put
     requires { ⌜ (drawn .width ≤ columnLimit) × (length (now message) ≤ messageLimit) × (plan .needed ≤ messageLimit) × (at ≤ 1000) ⌝ }
-    ensures { λ r. ⌜ Puts (drawnLines (lineText (entry (now (table .entry))) drawn) (spread (lineTimes plan (drawn .renderer) (drawn .row)) allLines) (now (message .entry))) at (now (out .entry)) (now (out .exit)) r ⌝ }
+    ensures { λ r. ⌜ Puts (drawnLines (map (prefixText (entry (now (table .entry))) drawn) (spread (lineTimes plan (drawn .renderer) (drawn .row)) allLines)) (now (message .entry))) at (now (out .entry)) (now (out .exit)) r ⌝ }
 {
     let renderer = drawn.renderer;
     let row = drawn.row;
+    let mut scratch = [0u8; DRAWN];
     let mut length: usize = 0;
     let mut measure: usize = 0;
     let mut next: usize = 0;
@@ -217,7 +247,8 @@ fn put_row(
     while k < LINES {
         let line = line_at(k);
         let times = times(plan, renderer, row, line);
-        let put = put_repeated(out, at + length, table, drawn, line, times, message, next);
+        let n = draw_line(&mut scratch, table, drawn, line, times);
+        let put = put_repeated(out, at + length, &scratch[0..n], times, message, next);
         length += put.length;
         measure = greater(measure, put.measure);
         next = put.next;
@@ -237,8 +268,7 @@ fn put_text(
     separator_line: bool,
 ) -> Put
     requires { ⌜ (drawn .width ≤ columnLimit) × (length (now message) ≤ messageLimit) × (plan .needed ≤ messageLimit) ⌝ }
-    ensures { λ r. ⌜ Puts (beginRow «separator_line» (textViewOf state)
-        ++ drawnLines (lineText (entry (now (table .entry))) drawn) (spread (lineTimes plan (drawn .renderer) (drawn .row)) allLines) (now (message .entry))) 0 (now (out .entry)) (now (out .exit)) r ⌝ }
+    ensures { λ r. ⌜ Puts (allPut (entry (now (table .entry))) drawn plan (now (message .entry)) (textViewOf state) «separator_line») 0 (now (out .entry)) (now (out .exit)) r ⌝ }
 {
     let above = begin_row(out, state, separator_line);
     let at = above.length;
@@ -247,6 +277,48 @@ fn put_text(
         length: at + row.length,
         measure: greater(above.measure, row.measure),
     }
+}
+
+// What a row's lines can have at most: of each line the cells, a blank and the end, the message, and what stands above the row.
+fn most_bytes(plan: Plan, width: usize, message: usize) -> usize
+    requires { ⌜ (plan .fixed ≤ 6) × (plan .needed ≤ messageLimit) × (width ≤ columnLimit) × (message ≤ messageLimit) ⌝ }
+    ensures { λ r. ⌜ r ≡ mostBytes plan width message ⌝ }
+{
+    let lines = plan.fixed + plan.needed;
+    let each = 8 * width + 2;
+    lines * each + message + 514
+}
+
+// Whether an output has room for all lines; they are counted only where it is shorter than they can be at most.
+fn has_room(
+    out: &mut [u8],
+    table: &[u8; TABLE],
+    drawn: Drawn,
+    plan: Plan,
+    message: &[u8],
+    state: TextState,
+    separator_line: bool,
+) -> bool
+    requires { ⌜ (drawn .width ≤ columnLimit) × (length (now message) ≤ messageLimit) × (plan .fixed ≤ 6) × (plan .needed ≤ messageLimit) ⌝ }
+    requires { ⌜ plan .fixed ≡ fixedLines (drawn .renderer) (drawn .row) ⌝ }
+    ensures { λ r. ⌜ (r ≡ leb (length (textOf (allPut (entry (now (table .entry))) drawn plan (now (message .entry)) (textViewOf state) «separator_line»))) (length (now (out .entry))))
+        × (now (out .exit) ≡ now (out .entry)) ⌝ }
+{
+    let size = out.len();
+    if most_bytes(plan, drawn.width, message.len()) <= size {
+        return true;
+    }
+    let none: usize = 0;
+    let counted = put_text(
+        &mut out[0..none],
+        table,
+        drawn,
+        plan,
+        message,
+        state,
+        separator_line,
+    );
+    counted.length <= size
 }
 
 // The text state after a row: the foot line waits for the next row if this one has a term line and wrote no foot line.
@@ -266,8 +338,10 @@ fn state_after(table: &[u8; TABLE], drawn: Drawn, plan: Plan, state: TextState) 
             row_height,
         };
     }
+    let mut scratch = [0u8; DRAWN];
     let line = Line::PostAncestry;
-    let queued_length = write_cells(&mut queued_pad_line, table, drawn, line, QUEUE_LIMIT);
+    let queued_length = draw_line(&mut scratch, table, drawn, line, 1);
+    copy_bytes(&mut queued_pad_line, &scratch[0..queued_length]);
     TextState {
         queued_pad_line,
         queued_length,
@@ -309,20 +383,10 @@ pub(crate) fn write_row_text(
     let style = shape.style;
     let placement = style.link_line_placement;
     let plan = plan_of(placement, renderer, row, line_count(message), height);
-    let table = glyph_table(renderer);
+    let mut table = [0u8; TABLE];
+    write_table(&mut table, renderer);
     let separator = shape.separator_line;
-    let size = out.len();
-    let none: usize = 0;
-    let counted = put_text(
-        &mut out[0..none],
-        &table,
-        drawn,
-        plan,
-        message,
-        state,
-        separator,
-    );
-    if size < counted.length {
+    if !has_room(out, &table, drawn, plan, message, state, separator) {
         return RowText {
             refusal: 8,
             length: 0,

@@ -1,51 +1,52 @@
 use borrow.Author.Needs.{needs}
 use Rattle.cells.proofs.cell.Statement.{statement}
 use Rattle.cells.proofs.cell.Tie as tie
-use Rattle.cells.proofs.CellLaws.{cell-done}
-
-from-node-requires : tie.Need-from-node-requires
-from-node-requires c κs = search needs
+use mathlib.Core.Path.{ap, sym, _∙_}
+use lib.Dec.{eqb}
+use borrow.Author.Tests.{eqb-true}
+use Rattle.column.specs.Codes.{columnIn}
+use Rattle.links.specs.declared.Met.{Met}
+use Rattle.links.specs.Inner.{metIn}
+use Rattle.links.proofs.LinkLaws.{met-zero}
+use Rattle.cells.specs.Cells.{cellOf}
+use Rattle.cells.proofs.CellLaws.{nothing-ends}
 
 is-at-requires : tie.Need-is-at-requires
 is-at-requires c κs = search needs
 
-with-uprights-requires : tie.Need-with-uprights-requires
-with-uprights-requires c κs = search needs
-
-node-cell-requires : tie.Need-node-cell-requires
-node-cell-requires c κs = search needs
-
-link-cell-requires : tie.Need-link-cell-requires
-link-cell-requires c κs = search needs
-
-link-cell-requires-2 : tie.Need-link-cell-requires-2
-link-cell-requires-2 c κs = search needs
-
-column-to-pad-line-requires : tie.Need-column-to-pad-line-requires
-column-to-pad-line-requires c κs = search needs
-
-is-anonymous-requires : tie.Need-is-anonymous-requires
-is-anonymous-requires c κs = search needs
-
-is-met-requires : tie.Need-is-met-requires
-is-met-requires c κs = search needs
+passed-cell-requires : tie.Need-passed-cell-requires
+passed-cell-requires c κs = let a = c .before .before .before .args in
+    let q = nothing-ends (eqb (a .index) (a .bounds .target)) (eqb (a .drawn) 0) (c .before .is-at .result) (c .if1 .taken) in (q .0, sym (c .before .is-at .ensures) ∙ q .2)
 
 returns : tie.Need-returns
-returns c = let a = c .before .before .before .before .before .before .before .before .before .args in
-    cell-done (a .need-link-line) (a .bounds) (a .swap) (a .index) (a .met) (a .before) (a .settled) _ _ _ _ _ _ _ _ _ (c .before .before .before .before .before .before .before .before .from-node .ensures) (c .before .before .before .before .before .before .before .is-at .ensures) (c .before .before .before .before .before .before .with-uprights .ensures)
-    (c .before .before .before .before .before .node-cell .ensures) (c .before .before .before .before .link-cell .ensures) (c .before .before .before .link-cell2 .ensures) (c .before .before .column-to-pad-line .ensures) (c .before .is-anonymous .ensures) (c .is-met .ensures)
+returns c = let a = c .before .before .before .before .args in
+    let q = nothing-ends (eqb (a .index) (a .bounds .target)) (eqb (a .drawn) 0) (c .before .before .is-at .result) (c .before .if1 .taken) in
+    c .passed-cell .ensures ∙ ap (λ (m : Met). cellOf (a .need-link-line) (a .bounds) (a .swap) (a .index) m (columnIn (a .before)) (columnIn (a .settled))) (sym (ap metIn (eqb-true (a .drawn) 0 (q .1)) ∙ met-zero))
+
+met-of-requires : tie.Need-met-of-requires
+met-of-requires c κs = search needs
+
+column-of-requires : tie.Need-column-of-requires
+column-of-requires c κs = search needs
+
+column-of-requires-2 : tie.Need-column-of-requires-2
+column-of-requires-2 c κs = search needs
+
+ended-cell-requires : tie.Need-ended-cell-requires
+ended-cell-requires c κs = search needs
+
+returns-2 : tie.Need-returns-2
+returns-2 c = c .ended-cell .ensures ∙ rw (c .before .before .before .met-of .ensures, c .before .before .column-of .ensures, c .before .column-of2 .ensures)
 
 pub cell-spec : {M : Type 1} → statement M
 cell-spec =
     tie.close
     (tie.spec
-    from-node-requires
     is-at-requires
-    with-uprights-requires
-    node-cell-requires
-    link-cell-requires
-    link-cell-requires-2
-    column-to-pad-line-requires
-    is-anonymous-requires
-    is-met-requires
-    returns)
+    passed-cell-requires
+    returns
+    met-of-requires
+    column-of-requires
+    column-of-requires-2
+    ended-cell-requires
+    returns-2)

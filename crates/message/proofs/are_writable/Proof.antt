@@ -1,33 +1,28 @@
-use borrow.Author.Tests.{not-true, not-false}
-use Prim.Native.Nat.{_≤_, _-_}
-use mathlib.Core.Path.{_≡_}
-use native.Mathlib.Omega.{arith}
-use lib.ListN.{length, drop}
-use borrow.Author.Needs.{needs}
-use Rattle.message.specs.Message.{allOf, isWritable}
-use Rattle.message.proofs.MessageLaws.{all-miss, all-next, all-done}
 use Rattle.message.proofs.are_writable.Statement.{statement}
 use Rattle.message.proofs.are_writable.Tie as tie
+use Prim.Native.Nat.{_≤_, _-_}
+use mathlib.Core.Path.{_≡_, refl}
+use mathlib.Core.Bool.{_&&_}
+use native.Mathlib.Omega.{arith}
+use lib.ListN.{length, drop}
+use Rattle.message.specs.Message.{allOf, isWritable}
+use Rattle.message.proofs.MessageLaws.{all-next, all-done}
+use borrow.Author.Needs.{needs}
 
 abbrev Inv-loop : tie.InvT-loop
-Inv-loop message i₀ i = (i ≤ length message) × (allOf isWritable message ≡ allOf isWritable (drop i message))
+Inv-loop message all₀ i₀ all i = (i ≤ length message) × (allOf isWritable message ≡ (all && allOf isWritable (drop i message)))
 
 abbrev μ-loop : tie.MeasureT-loop
-μ-loop message i₀ i = length message - i
+μ-loop message all₀ i₀ all i = length message - i
 
 loop-holds : tie.Need-loop-holds Inv-loop μ-loop
-loop-holds c = search needs
+loop-holds c = (omega arith, refl)
 
 shared-slice-read-is-writable : tie.Need-shared-slice-read-is-writable Inv-loop μ-loop
 shared-slice-read-is-writable c = search needs
 
 is-writable-requires : tie.Need-is-writable-requires Inv-loop μ-loop
 is-writable-requires c κs = search needs
-
-returns : tie.Need-returns Inv-loop μ-loop
-returns c =
-    let l = c .before .before .before .before .loop in
-    all-miss isWritable _ (l .i) (l .inv .1) (omega arith) (c .before .is-writable .ensures) (not-true _ (c .if1 .taken))
 
 add-i : tie.Need-add-i Inv-loop μ-loop
 add-i c = search needs
@@ -36,12 +31,10 @@ loop-less : tie.Need-loop-less Inv-loop μ-loop
 loop-less c = search needs
 
 loop-again : tie.Need-loop-again Inv-loop μ-loop
-loop-again c =
-    let l = c .before .before .before .before .loop in
-    (search needs, all-next isWritable _ (l .i) (l .inv .1) (omega arith) (c .before .is-writable .ensures) (not-false _ (c .if1 .left)))
+loop-again c = let l = c .before .before .before .loop in (omega arith, all-next isWritable _ (l .i) (l .all) (l .inv .1) _ (omega arith) (c .is-writable .ensures))
 
-returns-2 : tie.Need-returns-2 Inv-loop μ-loop
-returns-2 c = let l = c .before .loop in all-done isWritable _ (l .i) (l .inv .1) (omega arith)
+returns : tie.Need-returns Inv-loop μ-loop
+returns c = let l = c .before .loop in all-done isWritable _ (l .i) (l .all) (l .inv .1) (omega arith)
 
 pub are-writable-spec : {M : Type 1} → statement M
 are-writable-spec =
@@ -52,8 +45,7 @@ are-writable-spec =
     loop-holds
     shared-slice-read-is-writable
     is-writable-requires
-    returns
     add-i
     loop-less
     loop-again
-    returns-2)
+    returns)

@@ -1,56 +1,39 @@
-use Prim.Native.Nat.{_≤_, _+_, _-_}
-use mathlib.Core.Path.{_≡_}
-use native.Mathlib.Omega.{arith}
-use lib.ListN.{length, drop}
 use borrow.Author.Needs.{needs}
-use Rattle.message.specs.Message.{linesOf}
-use Rattle.message.proofs.MessageLaws.{count-next, none-left}
 use Rattle.message.proofs.line_count.Statement.{statement}
 use Rattle.message.proofs.line_count.Tie as tie
+use mathlib.Core.Path.{refl}
+use native.Mathlib.Omega.{arith}
+use Rattle.message.proofs.MessageLaws.{count-none, count-ended, count-open}
 
-abbrev Inv-loop : tie.InvT-loop
-Inv-loop message count₀ start₀ count start = (start ≤ length message) × (count ≤ start) × (length (linesOf message) ≡ count + length (linesOf (drop start message)))
+line-ends-requires : tie.Need-line-ends-requires
+line-ends-requires c κs = search needs
 
-abbrev μ-loop : tie.MeasureT-loop
-μ-loop message count₀ start₀ count start = length message - start
+returns : tie.Need-returns
+returns c = count-none (c .before .before .before .args .message .now) _ _ (c .before .line-ends .ensures .0) refl (c .if1 .taken)
 
-loop-holds : tie.Need-loop-holds Inv-loop μ-loop
-loop-holds c = search needs
+sub-if2 : tie.Need-sub-if2
+sub-if2 c = search needs
 
-add-count : tie.Need-add-count Inv-loop μ-loop
-add-count c = search needs
+shared-slice-read-if2 : tie.Need-shared-slice-read-if2
+shared-slice-read-if2 c = search needs
 
-line-end-requires : tie.Need-line-end-requires Inv-loop μ-loop
-line-end-requires c κs = search needs
+returns-2 : tie.Need-returns-2
+returns-2 c = count-ended (c .before .before .before .before .before .args .message .now) _ _ (c .before .before .before .line-ends .ensures .0) refl (omega arith) (c .if2 .taken)
 
-next-start-requires : tie.Need-next-start-requires Inv-loop μ-loop
-next-start-requires c κs = search needs
+add-result : tie.Need-add-result
+add-result c = search needs
 
-loop-less : tie.Need-loop-less Inv-loop μ-loop
-loop-less c = let l = c .before .before .before .loop in omega (arith, c .before .line-end .ensures, c .next-start .ensures)
-
-loop-again : tie.Need-loop-again Inv-loop μ-loop
-loop-again c =
-    let l = c .before .before .before .loop in
-    let s = c .before .before .before .before .before .args .message .now in
-    let e = count-next s (l .start) (c .next-start .result) (c .before .line-end .result) (omega arith) (c .before .line-end .ensures) (c .next-start .ensures) in
-    (omega (arith, c .next-start .ensures), omega (arith, c .before .line-end .ensures, c .next-start .ensures), omega (arith, e, l .inv .2))
-
-returns : tie.Need-returns Inv-loop μ-loop
-returns c =
-    let l = c .before .loop in
-    omega (arith, l .inv .2, none-left (c .before .before .before .args .message .now) (l .start) (omega arith))
+returns-3 : tie.Need-returns-3
+returns-3 c = count-open (c .before .before .before .before .before .args .message .now) _ _ (c .before .before .before .line-ends .ensures .0) refl (omega arith) (c .if2 .left)
 
 pub line-count-spec : {M : Type 1} → statement M
 line-count-spec =
     tie.close
     (tie.spec
-    Inv-loop
-    μ-loop
-    loop-holds
-    add-count
-    line-end-requires
-    next-start-requires
-    loop-less
-    loop-again
-    returns)
+    line-ends-requires
+    returns
+    sub-if2
+    shared-slice-read-if2
+    returns-2
+    add-result
+    returns-3)

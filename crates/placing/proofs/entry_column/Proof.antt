@@ -2,10 +2,9 @@ use borrow.Author.Needs.{needs}
 use Rattle.placing.proofs.entry_column.Statement.{statement}
 use Rattle.placing.proofs.entry_column.Tie as tie
 use mathlib.Core.Path.{sym, _∙_}
-use native.Mathlib.Omega.{arith}
 use Rattle.column.specs.Columns.{live}
-use Rattle.column.proofs.Front.{length-front}
-use Rattle.column.proofs.Laws.{columnOf}
+use Rattle.column.specs.Codes.{slotsIn}
+use Rattle.column.proofs.CodeLaws.{length-live}
 use Rattle.placing.proofs.PlacingLaws.{spot-held, spot-free, spot-last}
 
 held-by-requires : tie.Need-held-by-requires
@@ -15,7 +14,7 @@ enum-known-index : tie.Need-enum-known-index
 enum-known-index c = search needs
 
 returns : tie.Need-returns
-returns c = let a = c .before .before .before .before .args in
+returns c = let a = c .before .before .before .before .before .args in
     spot-held (a .column) (a .ancestor) _ _ (sym (c .before .before .before .held-by .ensures) ∙ c .before .index .given .1)
 
 enum-told : tie.Need-enum-told
@@ -30,16 +29,16 @@ enum-known-index-2 c = search needs
 enum-told-2 : tie.Need-enum-told-2
 enum-told-2 c = search needs
 
-live-count-requires : tie.Need-live-count-requires
-live-count-requires c κs = search needs
+live-words-requires : tie.Need-live-words-requires
+live-words-requires c κs = search needs
 
 returns-2 : tie.Need-returns-2
-returns-2 c = let a = c .before .before .before .before .before .before .before .args in
-    spot-last (a .column) (a .ancestor) (live (a .count) (a .slots)) _ (sym (c .before .before .before .before .before .before .held-by .ensures) ∙ c .before .before .before .before .enum-told .given .1) (sym (c .before .before .before .find-empty .ensures) ∙ c .before .enum-told2 .given .1) (rw (length-front columnOf (a .count) (a .slots)) (omega arith))
+returns-2 c = let a = c .before .before .before .before .before .before .before .before .args in
+    spot-last (a .column) (a .ancestor) (live (a .count) (slotsIn (a .codes .now))) _ (sym (c .before .before .before .before .before .before .held-by .ensures) ∙ c .before .before .before .before .enum-told .given .1) (sym (c .before .before .before .find-empty .ensures) ∙ c .before .enum-told2 .given .1) (c .live-words .ensures ∙ sym (length-live (a .count) (a .codes .now)))
 
 returns-3 : tie.Need-returns-3
-returns-3 c = let a = c .before .before .before .before .before .before .before .args in
-    spot-free (a .column) (a .ancestor) (live (a .count) (a .slots)) _ (sym (c .before .before .before .before .before .before .held-by .ensures) ∙ c .before .before .before .before .enum-told .given .1) (sym (c .before .before .before .find-empty .ensures) ∙ c .before .index2 .given .1)
+returns-3 c = let a = c .before .before .before .before .before .before .before .before .args in
+    spot-free (a .column) (a .ancestor) (live (a .count) (slotsIn (a .codes .now))) _ (sym (c .before .before .before .before .before .before .held-by .ensures) ∙ c .before .before .before .before .enum-told .given .1) (sym (c .before .before .before .find-empty .ensures) ∙ c .before .index2 .given .1)
 
 pub entry-column-spec : {M : Type 1} → statement M
 entry-column-spec =
@@ -52,6 +51,6 @@ entry-column-spec =
     find-empty-requires
     enum-known-index-2
     enum-told-2
-    live-count-requires
+    live-words-requires
     returns-2
     returns-3)

@@ -1,86 +1,73 @@
 use borrow.Author.Needs.{needs}
 use Rattle.placing.proofs.swap_columns.Statement.{statement}
 use Rattle.placing.proofs.swap_columns.Tie as tie
-use Rattle.placing.proofs.PlacingLaws.{swapped-in}
+use mathlib.Core.Path.{refl}
 
-mul-node-slot : tie.Need-mul-node-slot
-mul-node-slot c = search needs
+mul-node-code : tie.Need-mul-node-code
+mul-node-code c = search needs
 
-array-copy-out-node-slot : tie.Need-array-copy-out-node-slot
-array-copy-out-node-slot c = search needs
+element-copy-out-node-code : tie.Need-element-copy-out-node-code
+element-copy-out-node-code c = search needs
 
-mul-entry-slot : tie.Need-mul-entry-slot
-mul-entry-slot c = search needs
+mul-entry-code : tie.Need-mul-entry-code
+mul-entry-code c = search needs
 
-array-copy-out-entry-slot : tie.Need-array-copy-out-entry-slot
-array-copy-out-entry-slot c = search needs
+element-copy-out-entry-code : tie.Need-element-copy-out-entry-code
+element-copy-out-entry-code c = search needs
 
-mul-slots : tie.Need-mul-slots
-mul-slots c = search needs
+mul-codes : tie.Need-mul-codes
+mul-codes c = search needs
 
-array-set-from-slots : tie.Need-array-set-from-slots
-array-set-from-slots c = search needs
+element-write-codes : tie.Need-element-write-codes
+element-write-codes c = search needs
 
-mul-slots-2 : tie.Need-mul-slots-2
-mul-slots-2 c = search needs
+mul-codes-2 : tie.Need-mul-codes-2
+mul-codes-2 c = search needs
 
-array-set-from-slots-2 : tie.Need-array-set-from-slots-2
-array-set-from-slots-2 c = search needs
+element-write-codes-2 : tie.Need-element-write-codes-2
+element-write-codes-2 c = search needs
 
 mul-drawn : tie.Need-mul-drawn
 mul-drawn c = search needs
 
-array-copy-out-drawn : tie.Need-array-copy-out-drawn
-array-copy-out-drawn c = search needs
+element-copy-out-drawn : tie.Need-element-copy-out-drawn
+element-copy-out-drawn c = search needs
 
 mul-parents : tie.Need-mul-parents
 mul-parents c = search needs
 
-array-set-from-parents : tie.Need-array-set-from-parents
-array-set-from-parents c = search needs
+element-write-parents : tie.Need-element-write-parents
+element-write-parents c = search needs
 
 mul-parents-2 : tie.Need-mul-parents-2
 mul-parents-2 c = search needs
 
-array-set-from-parents-2 : tie.Need-array-set-from-parents-2
-array-set-from-parents-2 c = search needs
-
-mul-old : tie.Need-mul-old
-mul-old c = search needs
-
-array-copy-out-old : tie.Need-array-copy-out-old
-array-copy-out-old c = search needs
-
-column-at-requires : tie.Need-column-at-requires
-column-at-requires c κs = search needs
+element-write-parents-2 : tie.Need-element-write-parents-2
+element-write-parents-2 c = search needs
 
 is-parent-requires : tie.Need-is-parent-requires
 is-parent-requires c κs = search needs
 
 returns : tie.Need-returns
-returns c = let a = c .before .before .before .before .before .before .before .before .before .args in
-    swapped-in (a .walked) (a .bare) (a .column) _ _ (c .before .column-at .ensures) (c .is-parent .ensures)
+returns c = (refl, refl, rw (c .is-parent .ensures))
 
 pub swap-columns-spec : {M : Type 1} → statement M
 swap-columns-spec =
     tie.close
     (tie.spec
-    mul-node-slot
-    array-copy-out-node-slot
-    mul-entry-slot
-    array-copy-out-entry-slot
-    mul-slots
-    array-set-from-slots
-    mul-slots-2
-    array-set-from-slots-2
+    mul-node-code
+    element-copy-out-node-code
+    mul-entry-code
+    element-copy-out-entry-code
+    mul-codes
+    element-write-codes
+    mul-codes-2
+    element-write-codes-2
     mul-drawn
-    array-copy-out-drawn
+    element-copy-out-drawn
     mul-parents
-    array-set-from-parents
+    element-write-parents
     mul-parents-2
-    array-set-from-parents-2
-    mul-old
-    array-copy-out-old
-    column-at-requires
+    element-write-parents-2
     is-parent-requires
     returns)

@@ -19,8 +19,11 @@ returns-2 c = let a = c .before .before .before .before .before .args in width-r
 row-of-requires : tie.Need-row-of-requires
 row-of-requires c κs = search needs
 
-glyph-table-requires : tie.Need-glyph-table-requires
-glyph-table-requires c κs = search needs
+slice-aggregate-write-table : tie.Need-slice-aggregate-write-table
+slice-aggregate-write-table c = search needs
+
+write-table-requires : tie.Need-write-table-requires
+write-table-requires c κs = search needs
 
 lines-length-requires : tie.Need-lines-length-requires
 lines-length-requires c κs = search needs
@@ -29,18 +32,20 @@ refused-requires-3 : tie.Need-refused-requires-3
 refused-requires-3 c κs = search needs
 
 returns-3 : tie.Need-returns-3
-returns-3 c = let a = c .before .before .before .before .before .before .before .before .before .before .before .args in
-    room-refused (a .frame) (a .shape) (a .renderer) (a .mark) (a .out .now) (c .before .before .before .before .before .before .before .before .before .if1 .left) (c .before .before .before .before .before .before .before .if2 .left) _ _ (c .before .before .before .before .glyph-table .ensures) (c .before .before .before .before .before .row-of .ensures) _ _ (c .before .before .lines-length .ensures) (c .before .if3 .taken) (c .refused3 .ensures)
+returns-3 c =
+    let a = c .before .before .before .before .before .before .before .before .before .before .before .before .before .args in
+    room-refused (a .frame) (a .shape) (a .renderer) (a .mark) (a .out .now) (c .before .before .before .before .before .before .before .before .before .before .before .if1 .left) (c .before .before .before .before .before .before .before .before .before .if2 .left) _ _ (c .before .before .before .before .before .write-table .ensures (search needs)) (c .before .before .before .before .before .before .before .row-of .ensures) _ _ (c .before .before .lines-length .ensures) (c .before .if3 .taken) (c .refused3 .ensures)
 
 write-lines-requires : tie.Need-write-lines-requires
-write-lines-requires c κs = (c .before .before .before .before .before .before .before .before .if2 .left, omega (arith, c .before .before .before .lines-length .ensures))
+write-lines-requires c κs = (c .before .before .before .before .before .before .before .before .before .before .if2 .left, omega (arith, c .before .before .before .lines-length .ensures))
 
 same-length : tie.Need-same-length
 same-length c = search needs
 
 returns-4 : tie.Need-returns-4
-returns-4 c = let a = c .before .before .before .before .before .before .before .before .before .before .before .before .before .before .before .args in
-    accepted (a .frame) (a .shape) (a .renderer) (a .mark) (a .out .now) (c .before .before .before .before .before .before .before .before .before .before .before .before .before .if1 .left) (c .before .before .before .before .before .before .before .before .before .before .before .if2 .left) _ _ (c .before .before .before .before .before .before .before .before .glyph-table .ensures) (c .before .before .before .before .before .before .before .before .before .row-of .ensures) _ _ (omega (arith, c .before .before .before .before .before .before .lines-length .ensures)) (c .before .before .write-lines .ensures .0) (c .before .before .write-lines .ensures .1)
+returns-4 c =
+    let a = c .before .before .before .before .before .before .before .before .before .before .before .before .before .before .before .before .before .args in
+    accepted (a .frame) (a .shape) (a .renderer) (a .mark) (a .out .now) (c .before .before .before .before .before .before .before .before .before .before .before .before .before .before .before .if1 .left) (c .before .before .before .before .before .before .before .before .before .before .before .before .before .if2 .left) _ _ (c .before .before .before .before .before .before .before .before .before .write-table .ensures (search needs)) (c .before .before .before .before .before .before .before .before .before .before .before .row-of .ensures) _ _ (omega (arith, c .before .before .before .before .before .before .lines-length .ensures)) (c .before .before .write-lines .ensures .0) (c .before .before .write-lines .ensures .1)
 
 pub write-shape-spec : {M : Type 1} → statement M
 write-shape-spec =
@@ -51,7 +56,8 @@ write-shape-spec =
     refused-requires-2
     returns-2
     row-of-requires
-    glyph-table-requires
+    slice-aggregate-write-table
+    write-table-requires
     lines-length-requires
     refused-requires-3
     returns-3

@@ -1,7 +1,9 @@
 use borrow.Author.Needs.{needs}
 use Rattle.row_shape.proofs.ended.Statement.{statement}
 use Rattle.row_shape.proofs.ended.Tie as tie
-use Rattle.row_shape.proofs.RowLaws.{ends-persistent, ends-once}
+use mathlib.Core.Path.{ap, _∙_}
+use native.Mathlib.Omega.{arith}
+use Rattle.column.specs.Columns.{reset}
 
 enum-told : tie.Need-enum-told
 enum-told c = search needs
@@ -19,10 +21,10 @@ reset-requires-2 : tie.Need-reset-requires-2
 reset-requires-2 c κs = search needs
 
 returns : tie.Need-returns
-returns c = ends-persistent _ _ _ _ (c .before .enum-told .given .1) (c .reset .ensures)
+returns c = (omega (arith, c .reset .ensures .0), rw (c .before .before .enum-told .given .1) (c .reset .ensures .1))
 
 returns-2 : tie.Need-returns-2
-returns-2 c = ends-once _ _ _ _ _ (c .before .before .enum-told2 .given .1) (c .before .convert-ancestor-to-parent .ensures) (c .reset2 .ensures)
+returns-2 c = (omega (arith, c .reset2 .ensures .0, c .before .before .convert-ancestor-to-parent .kept), rw (c .before .before .before .before .enum-told2 .given .1) (c .reset2 .ensures .1 ∙ ap reset (c .before .before .convert-ancestor-to-parent .ensures)))
 
 pub ended-spec : {M : Type 1} → statement M
 ended-spec =

@@ -13,25 +13,28 @@ enum-told c = search needs
 returns : tie.Need-returns
 returns c = search needs
 
+live-words-requires : tie.Need-live-words-requires
+live-words-requires c κs = search needs
+
 returns-2 : tie.Need-returns-2
-returns-2 c = let a = c .before .before .before .before .args in
-    head-out (a .t1) (a .count) _ _ (c .before .before .existing .given .1) (omega arith) (omega arith)
+returns-2 c = let a = c .before .before .before .before .before .before .args in
+    head-out (a .codes .now) (a .count) _ _ (c .before .before .before .existing .given .1) (omega (arith, c .before .live-words .ensures))
 
-mul-slot : tie.Need-mul-slot
-mul-slot c = search needs
+mul-column-of : tie.Need-mul-column-of
+mul-column-of c = search needs
 
-array-copy-out-slot : tie.Need-array-copy-out-slot
-array-copy-out-slot c = search needs
+shared-slice-read-column-of : tie.Need-shared-slice-read-column-of
+shared-slice-read-column-of c = search needs
 
-column-at-requires : tie.Need-column-at-requires
-column-at-requires c κs = search needs
+column-of-requires : tie.Need-column-of-requires
+column-of-requires c κs = search needs
 
 is-reserved-requires : tie.Need-is-reserved-requires
 is-reserved-requires c κs = search needs
 
 returns-3 : tie.Need-returns-3
-returns-3 c = let a = c .before .before .before .before .before .before .before .args in
-    head-in (a .t1) (a .count) _ _ (c .before .before .before .before .before .existing .given .1) (omega arith) _ _ (omega arith) (c .before .column-at .ensures) (c .is-reserved .ensures)
+returns-3 c = let a = c .before .before .before .before .before .before .before .before .before .args in
+    head-in (a .codes .now) (a .count) _ _ (c .before .before .before .before .before .before .existing .given .1) _ _ (omega (arith, c .before .before .before .before .live-words .ensures)) (c .before .column-of .ensures) (c .is-reserved .ensures)
 
 pub is-head-spec : {M : Type 1} → statement M
 is-head-spec =
@@ -40,9 +43,10 @@ is-head-spec =
     enum-known-existing
     enum-told
     returns
+    live-words-requires
     returns-2
-    mul-slot
-    array-copy-out-slot
-    column-at-requires
+    mul-column-of
+    shared-slice-read-column-of
+    column-of-requires
     is-reserved-requires
     returns-3)

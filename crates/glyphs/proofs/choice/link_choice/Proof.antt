@@ -1,4 +1,6 @@
+use Rattle.glyphs.specs.declared.types.Line.the-variants.{Link}
 use Rattle.glyphs.specs.Cells.{choiceOf}
+use Rattle.glyphs.proofs.BoxLaws.{box-choice}
 use borrow.Author.Needs.{needs}
 use Rattle.glyphs.proofs.choice.link_choice.Statement.{statement}
 use Rattle.glyphs.proofs.choice.link_choice.Tie as tie
@@ -18,23 +20,8 @@ enum-told-2 c = search needs
 top-requires : tie.Need-top-requires
 top-requires c κs = search needs
 
-enum-told-3 : tie.Need-enum-told-3
-enum-told-3 c = search needs
-
 link-glyph-requires : tie.Need-link-glyph-requires
 link-glyph-requires c κs = search needs
-
-enum-told-4 : tie.Need-enum-told-4
-enum-told-4 c = search needs
-
-link-glyph-requires-2 : tie.Need-link-glyph-requires-2
-link-glyph-requires-2 c κs = search needs
-
-enum-told-5 : tie.Need-enum-told-5
-enum-told-5 c = search needs
-
-link-glyph-requires-3 : tie.Need-link-glyph-requires-3
-link-glyph-requires-3 c κs = search needs
 
 returns : tie.Need-returns
 unfolding choiceOf
@@ -45,16 +32,7 @@ unfolding choiceOf
 returns-2 c = rw (c .before .enum-told2 .given .1) (c .top .ensures)
 
 returns-3 : tie.Need-returns-3
-unfolding choiceOf
-returns-3 c = rw (c .before .enum-told3 .given .1, ← c .link-glyph .ensures)
-
-returns-4 : tie.Need-returns-4
-unfolding choiceOf
-returns-4 c = rw (c .before .enum-told4 .given .1, ← c .link-glyph2 .ensures)
-
-returns-5 : tie.Need-returns-5
-unfolding choiceOf
-returns-5 c = rw (c .before .enum-told5 .given .1, ← c .link-glyph3 .ensures)
+returns-3 c = rw (box-choice (c .before .before .before .before .before .args .renderer) (c .before .before .before .before .before .args .row) Link (c .before .before .before .before .before .args .place) (c .before .match .keys3), ← c .link-glyph .ensures)
 
 pub link-choice-spec : {M : Type 1} → statement M
 link-choice-spec =
@@ -65,14 +43,7 @@ link-choice-spec =
     link-connection-requires
     enum-told-2
     top-requires
-    enum-told-3
     link-glyph-requires
-    enum-told-4
-    link-glyph-requires-2
-    enum-told-5
-    link-glyph-requires-3
     returns
     returns-2
-    returns-3
-    returns-4
-    returns-5)
+    returns-3)

@@ -1,65 +1,61 @@
 use mathlib.Core.Path.{_≡_, refl}
 use Prim.Native.Nat.{_≤_, _-_}
 use native.Mathlib.Omega.{arith}
-use lib.ListN.{length, take, replicate, length-replicate, length-take, length-drop, drop}
-use Rattle.glyphs.specs.Inner.{entry}
-use Rattle.text.specs.Inner.{lineText}
+use lib.ListN.{length, replicate, length-replicate, take, drop}
 use borrow.Author.Needs.{needs}
-use Rattle.column.specs.Columns.{columnLimit}
-use Rattle.text.proofs.RepeatLaws.{put-short, Putting, so-short, part-within, repeat-next, row-none}
+use Rattle.text.proofs.RepeatLaws.{Putting, so-short, part-within, part-short, put-short, repeat-next, row-none}
 use Rattle.text.proofs.prefix_lines_to_text.put_repeated.Statement.{statement}
 use Rattle.text.proofs.prefix_lines_to_text.put_repeated.Tie as tie
 
 abbrev Inv-loop : tie.InvT-loop
-Inv-loop out₀ at table drawn line times message start length₀ measure₀ next₀ i₀ out length measure next i = (i ≤ times) × Putting table drawn message start at out₀ (replicate i line) out (record { length = length; measure = measure; next = next })
+Inv-loop out₀ at prefix times message start length₀ measure₀ next₀ i₀ out length measure next i = (i ≤ times) × Putting message start at out₀ (replicate i prefix) out (record { length = length; measure = measure; next = next })
 
 abbrev μ-loop : tie.MeasureT-loop
-μ-loop out₀ at table drawn line times message start length₀ measure₀ next₀ i₀ out length measure next i = times - i
+μ-loop out₀ at prefix times message start length₀ measure₀ next₀ i₀ out length measure next i = times - i
 
 loop-holds : tie.Need-loop-holds Inv-loop μ-loop
 loop-holds c =
-    let a = c .before .before .args in
-    (search needs, record { fits = c .before .before .pre .0; few = c .before .before .pre .1; same = refl; rows = row-none (lineText (entry (a .table .now)) (a .drawn)) (a .message .now) (a .start) (a .at) (a .out .now) (c .before .before .pre .2) })
+    let a = c .before .before .before .args in
+    (search needs, record { few = c .before .before .before .pre .1; short = tt; same = refl; rows = row-none (a .message .now) (a .start) (a .at) (a .out .now) (c .before .before .before .pre .2) })
 
 line-end-requires : tie.Need-line-end-requires Inv-loop μ-loop
 line-end-requires c κs = search needs
 
 add-put-text-line : tie.Need-add-put-text-line Inv-loop μ-loop
 add-put-text-line c =
-    let a = c .before .before .before .before .before .before .args in
+    let a = c .before .before .before .before .before .before .before .args in
     let l = c .before .before .before .loop in
-    omega (arith, length-replicate (l .i) (a .line), so-short (a .table .now) (a .drawn) (a .message .now) (a .start) (a .at) (a .out .now) (replicate (l .i) (a .line)) (l .out) _ (l .inv .1))
+    omega (arith, length-replicate (l .i) (a .prefix .now), so-short (a .message .now) (a .start) (a .at) (a .out .now) (replicate (l .i) (a .prefix .now)) (l .out) _ (l .inv .1))
 
 sub-put-text-line : tie.Need-sub-put-text-line Inv-loop μ-loop
 sub-put-text-line c =
-    let a = c .before .before .before .before .before .before .args in
+    let a = c .before .before .before .before .before .before .before .args in
     let l = c .before .before .before .loop in
-    part-within (a .table .now) (a .drawn) (a .message .now) (a .start) (a .at) (a .out .now) (replicate (l .i) (a .line)) (l .out) _ (l .inv .1) _ (c .before .line-end .ensures) .0
+    part-within (a .message .now) (a .start) (a .at) (a .out .now) (replicate (l .i) (a .prefix .now)) (l .out) _ (l .inv .1) _ (c .before .line-end .ensures) .0
 
 part-put-text-line-start : tie.Need-part-put-text-line-start Inv-loop μ-loop
 part-put-text-line-start c =
-    let a = c .before .before .before .before .before .before .args in
+    let a = c .before .before .before .before .before .before .before .args in
     let l = c .before .before .before .loop in
-    part-within (a .table .now) (a .drawn) (a .message .now) (a .start) (a .at) (a .out .now) (replicate (l .i) (a .line)) (l .out) _ (l .inv .1) _ (c .before .line-end .ensures) .0
+    part-within (a .message .now) (a .start) (a .at) (a .out .now) (replicate (l .i) (a .prefix .now)) (l .out) _ (l .inv .1) _ (c .before .line-end .ensures) .0
 
 part-put-text-line-end : tie.Need-part-put-text-line-end Inv-loop μ-loop
 part-put-text-line-end c =
-    let a = c .before .before .before .before .before .before .args in
+    let a = c .before .before .before .before .before .before .before .args in
     let l = c .before .before .before .loop in
-    part-within (a .table .now) (a .drawn) (a .message .now) (a .start) (a .at) (a .out .now) (replicate (l .i) (a .line)) (l .out) _ (l .inv .1) _ (c .before .line-end .ensures) .1
+    part-within (a .message .now) (a .start) (a .at) (a .out .now) (replicate (l .i) (a .prefix .now)) (l .out) _ (l .inv .1) _ (c .before .line-end .ensures) .1
 
 put-text-line-requires : tie.Need-put-text-line-requires Inv-loop μ-loop
 put-text-line-requires c κs =
-    let a = c .before .before .before .before .before .before .before .args in
-    (c .before .before .before .before .before .before .before .pre .0, omega (arith, c .before .before .before .before .before .before .before .pre .1, length-take (c .before .before .line-end .result - c .before .before .before .before .loop .next) (drop (c .before .before .before .before .loop .next) (a .message .now)), length-drop (c .before .before .before .before .loop .next) (a .message .now)))
+    let a = c .before .before .before .before .before .before .before .before .args in
+    let l = c .before .before .before .before .loop in
+    (c .before .before .before .before .before .before .before .before .pre .0, part-short (a .message .now) (a .start) (a .at) (a .out .now) (replicate (l .i) (a .prefix .now)) (l .out) _ (l .inv .1) (c .before .before .line-end .result))
 
 add-length : tie.Need-add-length Inv-loop μ-loop
 add-length c =
-    let a = c .before .before .before .before .before .before .before .before .before .before .before .args in
+    let a = c .before .before .before .before .before .before .before .before .before .before .before .before .args in
     let l = c .before .before .before .before .before .before .before .before .loop in
-    let e = c .before .before .before .before .before .before .line-end .result in
-    let k : length (take (e - l .next) (drop (l .next) (a .message .now))) ≤ 512 = omega (arith, l .inv .1 .few, length-take (e - l .next) (drop (l .next) (a .message .now)), length-drop (l .next) (a .message .now)) in
-    omega (arith, length-replicate (l .i) (a .line), so-short (a .table .now) (a .drawn) (a .message .now) (a .start) (a .at) (a .out .now) (replicate (l .i) (a .line)) (l .out) _ (l .inv .1), put-short (a .table .now) (a .drawn) (l .inv .1 .fits) (a .line) (take (e - l .next) (drop (l .next) (a .message .now))) k _ _ _ _ (c .before .before .before .put-text-line .ensures))
+    omega (arith, length-replicate (l .i) (a .prefix .now), so-short (a .message .now) (a .start) (a .at) (a .out .now) (replicate (l .i) (a .prefix .now)) (l .out) _ (l .inv .1), put-short (a .prefix .now) (c .before .before .before .before .before .before .before .before .before .before .before .before .pre .0) _ (part-short (a .message .now) (a .start) (a .at) (a .out .now) (replicate (l .i) (a .prefix .now)) (l .out) _ (l .inv .1) (c .before .before .before .before .before .before .line-end .result)) _ _ _ _ (c .before .before .before .put-text-line .ensures))
 
 greater-requires : tie.Need-greater-requires Inv-loop μ-loop
 greater-requires c κs = search needs
@@ -75,10 +71,10 @@ loop-less c = search needs
 
 loop-again : tie.Need-loop-again Inv-loop μ-loop
 loop-again c =
-    let a = c .before .before .before .before .before .before .before .before .before .before .before .before .before .args in
+    let a = c .before .before .before .before .before .before .before .before .before .before .before .before .before .before .args in
     let l = c .before .before .before .before .before .before .before .before .before .before .loop in
     let w = c .before .before .before .before .before .put-text-line in
-    (omega arith, repeat-next (a .table .now) (a .drawn) (a .message .now) (a .start) (a .at) (a .out .now) (a .line) (l .i) (l .out) _ (l .inv .1) _ (w .result) _ _ (c .before .before .before .before .before .before .before .before .line-end .ensures) (w .kept .0) (w .ensures) refl (c .before .greater .ensures) (c .next-start .ensures))
+    (omega arith, repeat-next (a .message .now) (a .start) (a .at) (a .out .now) (a .prefix .now) (c .before .before .before .before .before .before .before .before .before .before .before .before .before .before .pre .0) (l .i) (l .out) _ (l .inv .1) _ (w .result) _ _ (c .before .before .before .before .before .before .before .before .line-end .ensures) (w .kept .0) (w .ensures) refl (c .before .greater .ensures) (c .next-start .ensures))
 
 same-length : tie.Need-same-length Inv-loop μ-loop
 same-length c = search needs
@@ -86,7 +82,7 @@ same-length c = search needs
 returns : tie.Need-returns Inv-loop μ-loop
 returns c =
     let l = c .before .loop in
-    let e : l .i ≡ c .before .before .before .before .args .times = omega (arith, l .inv .0) in
+    let e : l .i ≡ c .before .before .before .before .before .args .times = omega (arith, l .inv .0) in
     rw (← e) (l .inv .1 .rows)
 
 pub put-repeated-spec : {M : Type 1} → statement M

@@ -1,7 +1,14 @@
 use mathlib.Core.Path.{_≡_, refl}
+use Prim.Native.Nat.{_≤_}
 use native.Mathlib.Omega.{arith}
+use lib.ListN.{length}
+use Rattle.glyphs.specs.declared.types.Line.{Line}
+use Rattle.glyphs.specs.Inner.{entry}
+use Rattle.glyphs.proofs.TableLaws.{entry-short}
 use Rattle.output.proofs.PutLaws.{queue-long, begin-short, puts-append, from-start}
+use Rattle.text.specs.Inner.{prefixText}
 use Rattle.text.proofs.RepeatLaws.{row-bound}
+use Rattle.text.proofs.TextLineLaws.{prefix-short}
 use borrow.Author.Needs.{needs}
 use Rattle.text.proofs.prefix_lines_to_text.put_text.Statement.{statement}
 use Rattle.text.proofs.prefix_lines_to_text.put_text.Tie as tie
@@ -11,18 +18,15 @@ begin-row-requires c κs = search needs
 
 put-row-requires : tie.Need-put-row-requires
 put-row-requires c κs =
-    let a = c .before .before .before .before .before .before .before .args in (
-      c .before .before .before .before .before .before .before .pre .0,
-      c .before .before .before .before .before .before .before .pre .1,
-      c .before .before .before .before .before .before .before .pre .2,
-      omega (arith, c .before .before .before .begin-row .ensures .count, begin-short (a .separator-line) (a .state) (queue-long (a .state .«queued_pad_line») _ (c .before .before .before .before .before .before .before .good .1 .1 .1 .1 .1 .0 .1 .1 .0 .1 .0 .1))),
-    )
+    let a = c .before .before .before .before .before .before .before .args in
+    (c .before .before .before .before .before .before .before .pre .0, c .before .before .before .before .before .before .before .pre .1, c .before .before .before .before .before .before .before .pre .2, omega (arith, c .before .before .before .begin-row .ensures .count, begin-short (a .separator-line) (a .state) (queue-long (a .state .«queued_pad_line») _ (c .before .before .before .before .before .before .before .good .1 .1 .1 .1 .1 .0 .1 .1 .0 .1 .0 .1))))
 
 add-t15 : tie.Need-add-t15
 add-t15 c =
     let a = c .before .before .before .before .before .before .before .before .before .before .before .args in
     let p = c .before .before .before .before .before .before .before .before .before .before .before .pre in
-    omega (arith, c .before .before .before .before .before .before .before .begin-row .ensures .count, begin-short (a .separator-line) (a .state) (queue-long (a .state .«queued_pad_line») _ (c .before .before .before .before .before .before .before .before .before .before .before .good .1 .1 .1 .1 .1 .0 .1 .1 .0 .1 .0 .1)), row-bound (a .table .now) (a .drawn) (p .0) (a .message .now) (p .1) (a .plan) (p .2) _ _ _ _ (c .before .before .before .put-row .ensures))
+    let f : (l : Line) → length (prefixText (entry (a .table .now)) (a .drawn) l) ≤ 512 = λ l. omega (arith, p .0, prefix-short (entry (a .table .now)) (a .drawn) l (entry-short (a .table .now))) in
+    omega (arith, c .before .before .before .before .before .before .before .begin-row .ensures .count, begin-short (a .separator-line) (a .state) (queue-long (a .state .«queued_pad_line») _ (c .before .before .before .before .before .before .before .before .before .before .before .good .1 .1 .1 .1 .1 .0 .1 .1 .0 .1 .0 .1)), row-bound (prefixText (entry (a .table .now)) (a .drawn)) f (a .message .now) (p .1) (a .plan) (a .drawn .renderer) (a .drawn .row) (p .2) _ _ _ _ (c .before .before .before .put-row .ensures))
 
 greater-requires : tie.Need-greater-requires
 greater-requires c κs = search needs

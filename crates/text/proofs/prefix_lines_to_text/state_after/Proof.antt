@@ -1,9 +1,9 @@
+use mathlib.Core.Path.{_≡_, _∙_}
+use Prim.Native.Nat.{_-_}
 use native.Mathlib.Omega.{arith}
-use Rattle.glyphs.specs.declared.types.Line.the-variants.{PostAncestry}
+use lib.ListN.{length, take, drop, length-take}
 use Rattle.glyphs.specs.Inner.{entry}
-use Rattle.glyphs.proofs.TableLaws.{entry-short}
 use Rattle.output.proofs.PutLaws.{queue-long}
-use Rattle.text.proofs.TextLineLaws.{prefix-short}
 use Rattle.text.proofs.RowTextLaws.{state-plain, state-queued}
 use borrow.Author.Needs.{needs}
 use Rattle.text.proofs.prefix_lines_to_text.state_after.Statement.{statement}
@@ -16,19 +16,33 @@ at-foot-requires : tie.Need-at-foot-requires
 at-foot-requires c κs = search needs
 
 returns : tie.Need-returns
-returns c = let a = c .before .before .before .before .before .before .args in state-plain (entry (a .table .now)) (a .drawn) (a .plan) (c .before .at-foot .result) (c .before .at-foot .ensures) (a .state .«queued_pad_line») (c .if1 .taken)
+returns c = state-plain (entry (c .before .before .before .before .before .before .args .table .now)) (c .before .before .before .before .before .before .args .drawn) (c .before .before .before .before .before .before .args .plan) (c .before .at-foot .result) (c .before .at-foot .ensures) (c .before .before .before .before .before .before .args .state .«queued_pad_line») (c .if1 .taken)
 
-slice-aggregate-write-cells : tie.Need-slice-aggregate-write-cells
-slice-aggregate-write-cells c = search needs
+slice-aggregate-draw-line : tie.Need-slice-aggregate-draw-line
+slice-aggregate-draw-line c = search needs
 
-write-cells-requires : tie.Need-write-cells-requires
-write-cells-requires c κs = let a = c .before .before .before .before .before .before .before .args in (c .before .before .before .before .before .before .before .pre .0, omega (arith, queue-long (a .state .«queued_pad_line») _ (c .before .before .before .before .before .before .before .good .1 .1 .1 .0 .1 .1 .0 .1 .0 .1)))
+draw-line-requires : tie.Need-draw-line-requires
+draw-line-requires c κs = search needs
+
+slice-aggregate-copy-bytes : tie.Need-slice-aggregate-copy-bytes
+slice-aggregate-copy-bytes c = search needs
+
+sub-copy-bytes : tie.Need-sub-copy-bytes
+sub-copy-bytes c = search needs
+
+part-copy-bytes-start : tie.Need-part-copy-bytes-start
+part-copy-bytes-start c = search needs
+
+part-copy-bytes-end : tie.Need-part-copy-bytes-end
+part-copy-bytes-end c = search needs
+
+copy-bytes-requires : tie.Need-copy-bytes-requires
+copy-bytes-requires c κs = search needs
 
 returns-2 : tie.Need-returns-2
 returns-2 c =
-    let a = c .before .before .before .before .before .before .before .before .before .args in
-    let w = c .before .write-cells in
-    state-queued (entry (a .table .now)) (a .drawn) (a .plan) (c .before .before .before .before .at-foot .result) (c .before .before .before .before .at-foot .ensures) (a .state .«queued_pad_line») (w .last .0) (w .result) (c .before .before .before .if1 .left) (prefix-short (entry (a .table .now)) (a .drawn) PostAncestry (entry-short (a .table .now)) (c .before .before .before .before .before .before .before .before .before .pre .0)) (w .ensures .0) (w .ensures .1)
+    let d = c .before .before .before .before .before .before .draw-line in
+    state-queued (entry (c .before .before .before .before .before .before .before .before .before .before .before .before .before .before .args .table .now)) (c .before .before .before .before .before .before .before .before .before .before .before .before .before .before .args .drawn) (c .before .before .before .before .before .before .before .before .before .before .before .before .before .before .args .plan) (c .before .before .before .before .before .before .before .before .before .at-foot .result) (c .before .before .before .before .before .before .before .before .before .at-foot .ensures) (c .before .before .before .before .before .before .before .before .before .before .before .before .before .before .args .state .«queued_pad_line») _ (d .last .0) (d .result) (c .before .before .before .before .before .before .before .before .if1 .left) (omega (arith, d .ensures .0, d .kept .0)) (d .ensures .1 (omega arith)) (c .before .copy-bytes .ensures (omega (arith, d .ensures .0, length-take (d .result - 0) (drop 0 (d .last .0)), queue-long (c .before .before .before .before .before .before .before .before .before .before .before .before .before .before .args .state .«queued_pad_line») _ (c .before .before .before .before .before .before .before .before .before .before .before .before .before .before .good .1 .1 .1 .0 .1 .1 .0 .1 .0 .1))))
 
 pub state-after-spec : {M : Type 1} → statement M
 state-after-spec =
@@ -37,6 +51,11 @@ state-after-spec =
     add-row-height
     at-foot-requires
     returns
-    slice-aggregate-write-cells
-    write-cells-requires
+    slice-aggregate-draw-line
+    draw-line-requires
+    slice-aggregate-copy-bytes
+    sub-copy-bytes
+    part-copy-bytes-start
+    part-copy-bytes-end
+    copy-bytes-requires
     returns-2)
