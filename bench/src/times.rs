@@ -2,6 +2,7 @@
 
 use std::ffi::c_int;
 use std::ffi::c_long;
+use std::hint::black_box;
 
 use crate::cases;
 use crate::cases::Case;
@@ -10,6 +11,11 @@ use crate::cases::Case;
 const GROWTH: [usize; 3] = [100, 1000, 10_000];
 /// The cases whose growth is shown.
 const GROWN: [&str; 2] = ["row", "text, curved, short"];
+
+/// The bytes by which the stack of a round lies deeper than that of the round before, and how many rounds go down before one starts anew:
+/// together a page of memory.
+const FRAME: usize = 96;
+const FRAMES: usize = 32;
 
 /// The C library's number of the clock that counts this thread's processor time.
 const THREAD_TIME: c_int = 3;
@@ -59,14 +65,28 @@ impl Side {
     }
 }
 
-/// Checks a case, then times both sides in turns.
+/// Runs something with the stack so many frames deeper. Where the stack lies in its page decides which copies get in each other's way.
+#[inline(never)]
+fn deeper(frames: usize, run: &mut dyn FnMut()) {
+    let frame = black_box([0u8; FRAME]);
+    if frames == 0 {
+        run();
+    } else {
+        deeper(frames - 1, run);
+    }
+    black_box(&frame);
+}
+
+/// Checks a case, then times both sides in turns, each round at another depth of the stack.
 fn time(case: &mut Case, rounds: usize) -> (Side, Side) {
     let (mut ours, mut rust) = (Side(Vec::new()), Side(Vec::new()));
     let rows = case.len();
     case.check();
-    for _ in 0..rounds.max(1) {
-        ours.time(rows, || case.ours());
-        rust.time(rows, || case.rust());
+    for round in 0..rounds.max(1) {
+        deeper(round % FRAMES, &mut || {
+            ours.time(rows, || case.ours());
+            rust.time(rows, || case.rust());
+        });
     }
     (ours, rust)
 }

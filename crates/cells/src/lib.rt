@@ -1,13 +1,11 @@
 // The cells of a row shape, after graph_to_row_shape.rs.
 ghost use mathlib.Core.Path.{_≡_};
-ghost use mathlib.Core.Bool.{false};
+ghost use mathlib.Core.Bool.{cond};
 ghost use Prim.Native.Nat.{_≤_};
-ghost use lib.Dec.{eqb};
-ghost use Rattle.column.specs.Columns.{columnLimit, columnAt};
+ghost use Rattle.column.specs.Columns.{columnLimit, isParent, isAncestor, columnAt};
 ghost use Rattle.column.specs.Codes.{columnIn, slotIn, slotsIn};
-ghost use Rattle.links.specs.Links.{isAt};
-ghost use Rattle.links.specs.Inner.{metIn, parentsIn, withUprights};
-ghost use Rattle.cells.specs.Inner.{cellsIn, linesOf, nodeCell, linkCell};
+ghost use Rattle.links.specs.Inner.{metIn, parentsIn};
+ghost use Rattle.cells.specs.Inner.{nodeCell, linkCell, plainCell, plainCells, passedBy, Keeps, Draws};
 ghost use Rattle.cells.specs.Cells.{besideNode, padOf, cellOf};
 use column::COLUMN_LIMIT;
 use column::Column;
@@ -71,60 +69,16 @@ fn link_cell(need_link_line: bool, marks: Marks) -> LinkLine
     LinkLine::EMPTY
 }
 
-// What the column of a word shows beside the node.
-fn word_to_node_line(code: u64) -> NodeLine
-    ensures { λ r. ⌜ r ≡ besideNode (columnIn code) ⌝ }
+// The cell of a column that nothing of the row reaches: its line goes straight on, if it has one.
+fn plain_cell(need_link_line: bool, column: Column) -> Cell
+    ensures { λ r. ⌜ r ≡ plainCell «need_link_line» column ⌝ }
 {
-    if column::is_parent(code) {
-        return NodeLine::Parent;
-    }
-    if column::is_ancestor(code) {
-        return NodeLine::Ancestor;
-    }
-    NodeLine::Blank
-}
-
-// What the column of a word shows in a pad line.
-fn word_to_pad_line(code: u64) -> PadLine
-    ensures { λ r. ⌜ r ≡ padOf (columnIn code) ⌝ }
-{
-    if column::is_parent(code) {
-        return PadLine::Parent;
-    }
-    if column::is_ancestor(code) {
-        return PadLine::Ancestor;
-    }
-    PadLine::Blank
-}
-
-// Marks with the line of a column that goes straight on.
-fn with_upright(marks: Marks, code: u64) -> Marks
-    ensures { λ r. ⌜ r ≡ withUprights false (columnIn code) marks ⌝ }
-{
-    let mut out = marks;
-    out.vert_parent = column::is_parent(code) | marks.vert_parent;
-    out.vert_ancestor = column::is_ancestor(code) | marks.vert_ancestor;
-    out
-}
-
-// One column of the shape in which nothing of the row ends: it is not the node's, nor an entry's, nor the one given up.
-fn passed_cell(
-    need_link_line: bool,
-    bounds: AncestorColumnBounds,
-    swap: Swap,
-    index: usize,
-    before: u64,
-    settled: u64,
-) -> Cell
-    requires { ⌜ (eqb index (bounds .target) ≡ false) × (isAt (swap .«given_up») index ≡ false) ⌝ }
-    ensures { λ r. ⌜ r ≡ cellOf «need_link_line» bounds swap index Met.Nobody (columnIn before) (columnIn settled) ⌝ }
-{
-    let own = passing(bounds, swap, index);
-    let all = with_upright(own, before);
-    let node = word_to_node_line(before);
+    let own = Marks::none();
+    let all = with_uprights(own, false, column);
+    let node = column_to_node_line(column);
     let link = link_cell(need_link_line, all);
     let link_from_node = link_cell(need_link_line, own);
-    let ancestry = word_to_pad_line(settled);
+    let ancestry = column_to_pad_line(column);
     Cell {
         link,
         link_from_node,
@@ -133,6 +87,51 @@ fn passed_cell(
         ancestry,
         parent: false,
     }
+}
+
+// The cell of a word's column, of those of a Parent column, of an Ancestor one and of any other.
+fn shown(code: u64, parent: Cell, ancestor: Cell, blank: Cell) -> Cell
+    ensures { λ r. ⌜ r ≡ cond (isParent (columnIn code)) parent (cond (isAncestor (columnIn code)) ancestor blank) ⌝ }
+{
+    if column::is_parent(code) {
+        return parent;
+    }
+    if column::is_ancestor(code) {
+        return ancestor;
+    }
+    blank
+}
+
+// The cells of the first `width` columns as if nothing of the row reached them; those past the width are blank.
+fn plain_cells(
+    need_link_line: bool,
+    codes: &[u64; COLUMN_LIMIT],
+    width: usize,
+) -> [Cell; COLUMN_LIMIT]
+    requires { ⌜ width ≤ columnLimit ⌝ }
+    ensures { λ r. ⌜ r ≡ plainCells «need_link_line» (now (codes .entry)) width ⌝ }
+{
+    let parent = plain_cell(need_link_line, Column::Parent(0));
+    let ancestor = plain_cell(need_link_line, Column::Ancestor(0));
+    let blank = Cell::blank();
+    let mut out = [blank; COLUMN_LIMIT];
+    let mut i: usize = 0;
+    while i < width {
+        out[i] = shown(codes[i], parent, ancestor, blank);
+        i += 1;
+    }
+    out
+}
+
+// The cell of a column in which nothing of the row ends, with the strokes that pass it.
+fn passed_cell(plain: Cell, own: LinkLine) -> Cell
+    ensures { λ r. ⌜ r ≡ passedBy plain own ⌝ }
+{
+    let upright = plain.link;
+    let mut out = plain;
+    out.link = upright.union(own);
+    out.link_from_node = own;
+    out
 }
 
 // Any other column of the shape, from what it was before the entries and is after the swap.
@@ -164,7 +163,7 @@ fn ended_cell(
     }
 }
 
-// One column of the shape, by the words of who draws in it and of what it was and is.
+// One column of the shape, by the words of who draws in it, of what it was, if it is one of `count`, and of what it is, and its plain cell.
 fn cell(
     need_link_line: bool,
     bounds: AncestorColumnBounds,
@@ -172,33 +171,25 @@ fn cell(
     index: usize,
     drawn: u64,
     before: u64,
+    count: usize,
     settled: u64,
+    plain: Cell,
 ) -> Cell
-    ensures { λ r. ⌜ r ≡ cellOf «need_link_line» bounds swap index (metIn drawn) (columnIn before) (columnIn settled) ⌝ }
+    ensures { λ r. ⌜ (plain ≡ plainCell «need_link_line» (columnIn settled) → Keeps bounds swap index (metIn drawn) (columnAt (slotIn before) index count) (columnIn settled)
+        → r ≡ cellOf «need_link_line» bounds swap index (metIn drawn) (columnAt (slotIn before) index count) (columnIn settled)) ⌝ }
 {
     let given_up = swap.given_up;
     if (index != bounds.target) & ((drawn == 0) & !is_at(given_up, index)) {
-        return passed_cell(need_link_line, bounds, swap, index, before, settled);
+        let own = passing(bounds, swap, index);
+        return passed_cell(plain, link_cell(need_link_line, own));
     }
-    let met = met_of(drawn);
-    let old = column::column_of(before);
+    let old = column::column_at(before, index, count);
     let new = column::column_of(settled);
-    ended_cell(need_link_line, bounds, swap, index, met, old, new)
-}
-
-// The word at `index` where it is live, else that of an Empty column.
-fn word_at(code: u64, index: usize, count: usize) -> u64
-    ensures { λ r. ⌜ columnIn r ≡ columnAt (slotIn code) index count ⌝ }
-{
-    if index < count {
-        return code;
-    }
-    0
+    ended_cell(need_link_line, bounds, swap, index, met_of(drawn), old, new)
 }
 
 // The cells of a shape's lines, from the columns before the entries, `count` of `bare`, and after the swap; those past the width are blank.
-fn cells(
-    need_link_line: bool,
+pub fn cells(
     bounds: AncestorColumnBounds,
     swap: Swap,
     parents: &[u64; COLUMN_LIMIT],
@@ -207,42 +198,26 @@ fn cells(
     codes: &[u64; COLUMN_LIMIT],
     width: usize,
 ) -> [Cell; COLUMN_LIMIT]
-    requires { ⌜ width ≤ columnLimit ⌝ }
-    ensures { λ r. ⌜ r ≡ cellsIn «need_link_line» bounds swap (parentsIn (now (parents .entry))) (record { slots = slotsIn (now (bare .entry)); count = count }) (slotsIn (now (codes .entry))) width ⌝ }
+    ensures { λ r. ⌜ Draws bounds swap (parentsIn (now (parents .entry))) (record { slots = slotsIn (now (bare .entry)); count = count }) (slotsIn (now (codes .entry))) width r ⌝ }
 {
-    let blank = Cell::blank();
-    let mut out = [blank; COLUMN_LIMIT];
-    let mut i: usize = 0;
-    while i < width {
-        let before = word_at(bare[i], i, count);
-        let settled = word_at(codes[i], i, width);
-        out[i] = cell(need_link_line, bounds, swap, i, parents[i], before, settled);
+    let need_link_line = bounds.need_link_line(swap);
+    let n = column::live_count(width);
+    let mut out = plain_cells(need_link_line, codes, n);
+    let end = bounds.reach_end(swap, n);
+    let mut i = bounds.reach_start(swap);
+    while i < end {
+        out[i] = cell(
+            need_link_line,
+            bounds,
+            swap,
+            i,
+            parents[i],
+            bare[i],
+            count,
+            codes[i],
+            out[i],
+        );
         i += 1;
     }
     out
-}
-
-// The link line's presence and the cells of a row.
-pub struct RowLines {
-    pub link_line: bool,
-    pub cells: [Cell; COLUMN_LIMIT],
-}
-
-// The lines of a row, from its columns before the entries and after the swap, and who draws in each.
-pub fn lines(
-    parents: &[u64; COLUMN_LIMIT],
-    swap: Swap,
-    bare: &[u64; COLUMN_LIMIT],
-    count: usize,
-    codes: &[u64; COLUMN_LIMIT],
-    width: usize,
-    column: usize,
-) -> RowLines
-    ensures { λ r. ⌜ r ≡ linesOf (record { slots = slotsIn (now (codes .entry)); parents = parentsIn (now (parents .entry)); swap = swap }) (record { slots = slotsIn (now (bare .entry)); count = count }) width column ⌝ }
-{
-    let bounds = AncestorColumnBounds::new(parents, width, column);
-    let link_line = bounds.need_link_line(swap);
-    let n = column::live_count(width);
-    let cells = cells(link_line, bounds, swap, parents, bare, count, codes, n);
-    RowLines { link_line, cells }
 }

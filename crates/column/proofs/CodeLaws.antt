@@ -1,8 +1,8 @@
 -- Laws of columns as words: an array of words stands for an array of slots.
-use Prim.Native.Nat.{ℕ, zero, suc, _+_, _*_, _/_, _%_, _≤_, _<_, min}
-use mathlib.Core.Path.{_≡_, refl, ap, ap₂, _∙_, sym}
+use Prim.Native.Nat.{ℕ, zero, suc, _+_, _*_, _%_, _≤_, _<_, min}
+use mathlib.Core.Path.{_≡_, refl, ap, _∙_, sym}
 use mathlib.Core.Bool.{Bool, true, false, _&&_}
-use mathlib.Core.List.{List, [], _∷_, map}
+use mathlib.Core.List.{List, [], _∷_}
 use native.Mathlib.Omega.{arith}
 use native.Mathlib.Numerals.{add-one}
 use lib.Dec.{ltb, leb, eqb}
@@ -10,10 +10,10 @@ use lib.ListN.{length, getD, drop, set, replicate, length-map, length-set, lengt
 use lib.Seq.{lt-length-set, set-out, getD-set-same, getD-set-other}
 use borrow.Author.Tests.{ltb-true, ltb-false, le-leb, ne-eqb}
 use Rattle.column.specs.declared.Column.{Column}
-use Rattle.column.specs.declared.Column.the-variants.{Empty, Reserved, Ancestor, Parent}
+use Rattle.column.specs.declared.Column.the-variants.{Empty, Blocked, Reserved, Ancestor, Parent}
 use Rattle.column.specs.declared.Slot.{Slot}
 use Rattle.column.specs.declared.Found.the-variants.{At, Nothing}
-use Rattle.column.specs.Columns.{columnLimit, holds, isParent, isAncestor, unblock, first, at, live, emptySlot, columnAt, SpareEmpty}
+use Rattle.column.specs.Columns.{columnLimit, rank, holds, isParent, isAncestor, unblock, first, at, live, emptySlot, columnAt, SpareEmpty}
 use Rattle.column.specs.Codes.{idLimit, idIn, ofRank, columnIn, slotIn, slotsIn}
 use Rattle.column.proofs.Front.{length-front, front-set, front-suc, front-clamp}
 use Rattle.column.proofs.Laws.{columnOf, later, first-hit, first-miss, first-end, live-at, live-below, live-past, mapFrom, turning-next}
@@ -27,6 +27,17 @@ column-in w k n e f = rw (e, f)
 
 pub coded : (k n w : ℕ) → n < idLimit → k < 8 → w ≡ n * 8 + k → columnIn w ≡ ofRank k n
 coded k n w h j e = column-in w k n (rw e (omega arith)) (rw e (omega arith))
+
+-- a column by its rank and its id
+ranked : (c : Column) → rank c < 8
+ranked Empty = omega arith
+ranked Blocked = omega arith
+ranked (Reserved n) = omega arith
+ranked (Ancestor n) = omega arith
+ranked (Parent n) = omega arith
+
+pub coded-as : (c : Column) (i k n w : ℕ) → ofRank (rank c) i ≡ c → k ≡ rank c → n ≡ i → n < idLimit → w ≡ n * 8 + k → columnIn w ≡ c
+coded-as c i k n w a b e h f = coded k n w h (rw b (ranked c)) f ∙ rw (b, e) a
 
 -- any higher rank is Parent's
 pub above-three : (w n k : ℕ) → w % 8 ≡ k → n ≡ idIn w → (k ≡ 0 → ⊥) → (k ≡ 1 → ⊥) → (k ≡ 2 → ⊥) → (k ≡ 3 → ⊥) → Parent n ≡ columnIn w

@@ -9,6 +9,7 @@ use Rattle.column.specs.declared.Slot.{Slot}
 abbrev pub idLimit : ℕ
 idLimit = 0x100000000
 
+-- the id in a word
 abbrev pub idIn : ℕ → ℕ
 idIn w = w / 8 % idLimit
 
@@ -24,6 +25,7 @@ ofRank (suc (suc (suc (suc k)))) n = Parent n
 unfoldable pub columnIn : ℕ → Column
 columnIn w = ofRank (w % 8) (idIn w)
 
+-- the slot in a word
 unfoldable pub slotIn : ℕ → Slot
 slotIn w = record { column = columnIn w }
 

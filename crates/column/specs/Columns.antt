@@ -32,6 +32,7 @@ idOf (Reserved n) = some n
 idOf (Ancestor n) = some n
 idOf (Parent n) = some n
 
+-- whether that is the id n
 abbrev pub isId : ℕ → Option ℕ → Bool
 isId n none = false
 isId n (some o) = eqb n o
@@ -56,6 +57,7 @@ isReserved (Reserved n) = true
 isReserved (Ancestor n) = false
 isReserved (Parent n) = false
 
+-- whether a column is Ancestor
 abbrev pub isAncestor : Column → Bool
 isAncestor Empty = false
 isAncestor Blocked = false
@@ -63,6 +65,7 @@ isAncestor (Reserved n) = false
 isAncestor (Ancestor n) = true
 isAncestor (Parent n) = false
 
+-- whether a column is Parent
 abbrev pub isParent : Column → Bool
 isParent Empty = false
 isParent Blocked = false
@@ -79,6 +82,7 @@ abbrev pub next : Found → Found
 next (At i) = At (suc i)
 next Nothing = Nothing
 
+-- the first column that passes a test, counted from 0
 abbrev pub first : (Column → Bool) → List Column → Found
 first p [] = Nothing
 first p (c ∷ cs) = cond (p c) (At 0) (next (first p cs))
@@ -121,10 +125,12 @@ abbrev pub keep : Column → List Column → List Column
 keep c [] = cond (isEmpty c) [] (c ∷ [])
 keep c (d ∷ ds) = c ∷ d ∷ ds
 
+-- the columns without the Empty ones at the end (01, point 1)
 abbrev pub trim : List Column → List Column
 trim [] = []
 trim (c ∷ cs) = keep c (trim cs)
 
+-- "`reset`: Blocked becomes Empty, then Empty columns at the end go." (01, point 1)
 abbrev pub reset : List Column → List Column
 reset cs = trim (map unblock cs)
 
@@ -143,6 +149,7 @@ put (d ∷ cs) (suc i) c = d ∷ put cs i c
 abbrev pub live : ℕ → List Slot → List Column
 live n slots = map (λ (s : Slot). s .column) (take n slots)
 
+-- a slot that holds an Empty column
 abbrev pub emptySlot : Slot
 emptySlot = record { column = Empty }
 

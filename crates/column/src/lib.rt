@@ -6,7 +6,7 @@ ghost use mathlib.Core.List.{map};
 ghost use Prim.Native.Nat.{_+_, _≤_, _<_, min, max};
 ghost use lib.ListN.{length, set};
 ghost use Rattle.column.specs.Columns.{columnLimit, rank as rankOf, holds, isEmpty, isReserved, isAncestor, isParent, columnAt, merge as merged, first, find as findIn, findEmpty, vacant as vacantIn, direct, unblock as unblocked, trim, reset as resetOf, live, emptySlot, SpareEmpty};
-ghost use Rattle.column.specs.Codes.{idLimit, idIn, columnIn, slotIn, slotsIn};
+ghost use Rattle.column.specs.Codes.{idLimit, idIn, ofRank, columnIn, slotIn, slotsIn};
 
 // The most columns that are held.
 pub const COLUMN_LIMIT: usize = 64;
@@ -97,6 +97,19 @@ impl Column {
         }
     }
 
+    // The id that the column holds, else 0.
+    fn id(self) -> u32
+        ensures { λ r. ⌜ ofRank (rankOf self) r ≡ self ⌝ }
+    {
+        match self {
+            Column::Empty => 0,
+            Column::Blocked => 0,
+            Column::Reserved(node) => node,
+            Column::Ancestor(node) => node,
+            Column::Parent(node) => node,
+        }
+    }
+
     // The column after `other` is merged into it: only a higher rank replaces it.
     pub fn merge(self, other: Column) -> Column
         ensures { λ r. ⌜ r ≡ merged self other ⌝ }
@@ -136,13 +149,8 @@ impl Column {
     pub fn code(self) -> u64
         ensures { λ r. ⌜ columnIn r ≡ self ⌝ }
     {
-        match self {
-            Column::Empty => 0,
-            Column::Blocked => 1,
-            Column::Reserved(node) => wide(node) * 8 + 2,
-            Column::Ancestor(node) => wide(node) * 8 + 3,
-            Column::Parent(node) => wide(node) * 8 + 4,
-        }
+        let rank = self.rank();
+        wide(self.id()) * 8 + rank as u64
     }
 }
 
@@ -164,12 +172,13 @@ fn id_of(code: u64) -> u32
 pub fn column_of(code: u64) -> Column
     ensures { λ r. ⌜ r ≡ columnIn code ⌝ }
 {
+    let id = id_of(code);
     match code % 8 {
         0 => Column::Empty,
         1 => Column::Blocked,
-        2 => Column::Reserved(id_of(code)),
-        3 => Column::Ancestor(id_of(code)),
-        _ => Column::Parent(id_of(code)),
+        2 => Column::Reserved(id),
+        3 => Column::Ancestor(id),
+        _ => Column::Parent(id),
     }
 }
 

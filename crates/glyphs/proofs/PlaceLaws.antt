@@ -15,7 +15,8 @@ use Rattle.render.specs.declared.types.Cell.{Cell}
 use Rattle.render.specs.Link.{noMarks}
 use Rattle.glyphs.specs.declared.types.Place.{Place}
 use Rattle.glyphs.specs.Inner.{nextIndex, nextLink}
-use Rattle.glyphs.specs.Row.{anyOf, firstLink, places}
+use Rattle.render.specs.Entries.{anyOf}
+use Rattle.glyphs.specs.Row.{firstLink, places}
 
 pub length-places : (i : ℕ) (cs : List Cell) → length (places i cs) ≡ length cs
 length-places i [] = refl

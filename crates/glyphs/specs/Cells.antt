@@ -65,6 +65,7 @@ pub record PrefixLine : Type 0 where
 abbrev pub lineOf : Renderer → RowShape → Line → PrefixLine
 lineOf q g l = record { kind = l; choices = map (choiceOf q (rowOf g) l) (places 0 (cellsOf g)) }
 
+-- the lines of a shape that are there, in their order
 abbrev pub lines : Renderer → RowShape → List PrefixLine
 lines q g = map (lineOf q g) (keep (isPresent q (rowOf g)) allLines)
 
@@ -76,6 +77,7 @@ setOf Square = square
 setOf Curved = curved
 setOf Dec = dec
 
+-- the glyph with the number n
 unfoldable pub glyphsOf : Renderer → ℕ → List ℕ
 glyphsOf q n = getD (setOf q) n []
 

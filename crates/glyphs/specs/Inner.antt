@@ -65,6 +65,7 @@ Draws table q = (n : ℕ) → entry table n ≡ glyphsOf q n
 abbrev pub nextIndex : ℕ → ℕ
 nextIndex i = min (i + 1) (columnLimit - 1)
 
+-- the next cell's link, where there is a next cell
 abbrev pub nextLink : Cell → ℕ → ℕ → LinkLine
 nextLink after i width = cond (ltb (i + 1) width) (after .link) noMarks
 
@@ -72,5 +73,6 @@ nextLink after i width = cond (ltb (i + 1) width) (after .link) noMarks
 unfoldable pub cellBytes : (ℕ → List ℕ) → Renderer → Row → ℕ → Line → Place → List ℕ
 cellBytes glyphs q r mark l p = bytesOf glyphs q (r .«dash_style») mark (p .index) (choiceOf q r l p)
 
+-- the bytes of the cells from index i on
 abbrev pub cellsText : (ℕ → List ℕ) → Renderer → Row → ℕ → List Cell → Line → List ℕ
 cellsText glyphs q r mark cells l = joins (cellBytes glyphs q r mark l) (places 0 cells)

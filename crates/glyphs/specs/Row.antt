@@ -1,32 +1,30 @@
 -- What a renderer looks at: the row's facts, and each cell with its index and the next cell's link (types.rs).
 use Prim.Native.Nat.{ℕ, suc}
-use mathlib.Core.Bool.{Bool, true, false, _||_}
+use mathlib.Core.Bool.{Bool, true, false}
 use mathlib.Core.List.{List, [], _∷_}
 use Rattle.render.specs.declared.render.LinkLine.{LinkLine}
 use Rattle.render.specs.declared.render.PadLine.{PadLine}
 use Rattle.render.specs.declared.render.PadLine.the-variants.{Blank, Ancestor, Parent}
 use Rattle.render.specs.declared.types.Cell.{Cell}
 use Rattle.render.specs.declared.types.RowShape.{RowShape}
+use Rattle.render.specs.Entries.{anyOf}
 use Rattle.render.specs.Lines.{cellsOf}
 use Rattle.render.specs.Link.{meets, noMarks}
 use Rattle.glyphs.specs.declared.types.Place.{Place}
 use Rattle.glyphs.specs.declared.types.Row.{Row}
 use Rattle.glyphs.specs.Marks.{horizontal}
 
--- some cell passes the test
-abbrev pub anyOf : (Cell → Bool) → List Cell → Bool
-anyOf t [] = false
-anyOf t (c ∷ cs) = t c || anyOf t cs
-
 -- the tests of `any_horizontal` and `has_indirect_ancestor`
 abbrev pub isHorizontal : Cell → Bool
 isHorizontal c = meets (c .link) horizontal
 
+-- whether a pad cell is an ancestor's
 abbrev pub isAncestor : PadLine → Bool
 isAncestor Blank = false
 isAncestor Ancestor = true
 isAncestor Parent = false
 
+-- the test of `has_indirect_ancestor`
 abbrev pub isIndirect : Cell → Bool
 isIndirect c = isAncestor (c .ancestry)
 
@@ -49,6 +47,7 @@ abbrev pub firstLink : List Cell → LinkLine
 firstLink [] = noMarks
 firstLink (c ∷ cs) = c .link
 
+-- each cell with its index and the next one's link, from index i on
 abbrev pub places : ℕ → List Cell → List Place
 places i [] = []
 places i (c ∷ cs) = record { index = i; cell = c; next = firstLink cs } ∷ places (suc i) cs

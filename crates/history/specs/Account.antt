@@ -31,6 +31,7 @@ names x (Indirect n) = eqb x n
 names x (Direct n) = eqb x n
 names x Anonymous = false
 
+-- whether an entry names the id
 abbrev pub named : ℕ → List Entry → Bool
 named x [] = false
 named x (e ∷ es) = names x e || named x es

@@ -68,6 +68,7 @@ OneEntry x (e ∷ f ∷ es) = ⊥
 abbrev pub cell : List Stroke → ℕ → Stroke
 cell l i = getD l i Blank
 
+-- a cell that has a stroke
 abbrev pub isStroke : Stroke → Type 0
 isStroke Blank = ⊥
 isStroke Dashed = Unit {0}
@@ -81,6 +82,7 @@ solid Dashed = Solid
 solid Solid = Solid
 solid Other = Other
 
+-- a stroke over the node: "a dashed stroke over the node becomes solid"
 abbrev pub overNode : ℕ → ℕ → Stroke → Stroke
 overNode c i x = cond (eqb i c) (solid x) x
 

@@ -43,6 +43,7 @@ callOf (Text a n es) = Row n es
 abbrev pub textOn : View → TextArguments → ℕ → List Entry → TextReply
 textOn v a n es = text v (a .state) (a .renderer) n (ltb entryLimit (length es)) es (a .mark) (a .message) (a .output)
 
+-- whether a number refuses
 abbrev pub isRefusal : ℕ → Bool
 isRefusal zero = false
 isRefusal (suc n) = true
@@ -52,6 +53,7 @@ abbrev pub refusesCall : View → Call → Bool
 refusesCall v (Reserve n) = isRefusal (reserve v n .refusal)
 refusesCall v (Row n es) = isRefusal (rowOf v n es .refusal)
 
+-- the view after a call
 abbrev pub afterCall : View → Call → View
 afterCall v (Reserve n) = reserve v n .view
 afterCall v (Row n es) = rowOf v n es .view
@@ -61,6 +63,7 @@ abbrev pub refuses : View → Item → Bool
 refuses v (Plain k) = refusesCall v k
 refuses v (Text a n es) = isRefusal (textOn v a n es .refusal)
 
+-- the view after an item
 abbrev pub after : View → Item → View
 after v (Plain k) = afterCall v k
 after v (Text a n es) = textOn v a n es .view
@@ -90,6 +93,7 @@ lineOfKind k (l ∷ ls) = cond (eqb (letter (l .kind)) k) (l .choices) (lineOfKi
 abbrev pub headLine : Renderer → RowShape → List Stroke
 headLine q g = map strokeOf (lineOfKind (letter PreNode) (lines q g))
 
+-- the foot line of a shape, as strokes
 abbrev pub footLine : Renderer → RowShape → List Stroke
 footLine q g = map strokeOf (lineOfKind (letter PostAncestry) (lines q g))
 

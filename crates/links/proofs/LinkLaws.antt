@@ -2,22 +2,26 @@
 use Prim.Native.Nat.{ℕ, zero, suc, _+_, _≤_, _<_, min, max}
 use mathlib.Core.Path.{_≡_, refl, ap, _∙_, sym}
 use mathlib.Core.Bool.{Bool, true, false, cond, not, _&&_}
-use borrow.Author.Tests.{eqb-true}
+use borrow.Author.Tests.{eqb-true, ne-eqb, le-ltb}
 use mathlib.Core.List.{List, [], _∷_}
 use native.Mathlib.Numerals.{add-one}
 use native.Mathlib.Omega.{arith}
-use lib.ListN.{length, getD, drop, set, length-map, drop-of-length-le}
-use lib.Seq.{drop-cons}
+use lib.ListN.{length, getD, take, drop, set, length-map, drop-of-length-le, List·getD-map}
+use lib.Seq.{drop-cons, getD-take}
 use lib.Dec.{ltb, eqb}
 use Rattle.render.specs.Entries.{isDirect}
+use Rattle.render.specs.Link.{unmarked}
 use Rattle.column.proofs.Front.{length-front, front-getD}
 use Rattle.links.specs.declared.Met.{Met}
 use Rattle.links.specs.declared.Met.the-variants.{Nobody, By}
 use Rattle.links.specs.declared.Swap.{Swap}
 use Rattle.links.specs.declared.AncestorColumnBounds.{AncestorColumnBounds}
 use Rattle.links.specs.Links.{met, isMet, foundAs, isAt, leftmost, rightmost, boundsOf, marksAt}
-use Rattle.links.specs.Inner.{ParentColumn, drawnBy, metIn, parentIn, parentsIn, reaching, mets, fromNode, passing}
+use Rattle.links.specs.Inner.{ParentColumn, drawnBy, metIn, parentIn, parentsIn, reaching, mets, fromNode, passing, reachStart, reachLast}
 use Rattle.column.specs.declared.Column.{Column}
+use Rattle.column.specs.declared.Found.{Found}
+use Rattle.column.specs.declared.Found.the-variants.{At, Nothing}
+use Rattle.column.specs.Columns.{orElse}
 use Rattle.column.specs.Codes.{columnIn}
 
 -- a column that nobody met
@@ -193,6 +197,10 @@ module _ (n : ℕ) (l : List ℕ) (i : ℕ) where
   pub mets-past : min n (length l) ≤ i → length (mets n (parentsIn l)) ≤ i
   mets-past h = rw (length-front, length-parents) h
 
+-- who draws in one of the first columns
+pub getD-mets : (n : ℕ) (l : List ParentColumn) (i : ℕ) → i < n → getD (mets n l) i Nobody ≡ (getD l i nobody) .met
+getD-mets n l i h = List·getD-map metOf (take n l) i nobody ∙ rw (getD-take n l i nobody h)
+
 -- the marks of a cell, from what the functions found
 pub marks-done : (b : AncestorColumnBounds) (w : Swap) (i : ℕ) (m : Met) (swapped gone ahead drawn direct indirect : Bool)
     → swapped ≡ foundAs (λ p. true) (w .«given_up») → gone ≡ isAt (w .«given_up») i → ahead ≡ foundAs (ltb i) (w .«given_up»)
@@ -208,3 +216,89 @@ none false = refl
 pub passing-is : (b : AncestorColumnBounds) (w : Swap) (i : ℕ) (m : Met) → eqb i (b .target) ≡ false → isMet m ≡ false → isAt (w .«given_up») i ≡ false → passing b w i ≡ fromNode b w i m
 passing-is b w i Nobody h e g = rw (h, g, none (ltb (b .target) i), none (ltb i (b .target)))
 passing-is b w i (By a) h e g = let z : _≡_ {A = ℕ} 0 1 = cc in absurd (omega arith)
+
+-- ---- columns that a row does not reach
+
+-- a column that an entry met lies between the outermost ones
+leftmost-at : (ms : List Met) (i c j : ℕ) → isMet (getD ms j Nobody) ≡ true → leftmost isMet ms i c ≤ i + j
+leftmost-at [] i c j e = let z : _≡_ {A = ℕ} 0 1 = cc in absurd (omega arith)
+leftmost-at (m ∷ ms) i c zero e = rw e (omega arith)
+leftmost-at (m ∷ ms) i c (suc j) e = omega (arith, leftmost-at ms (suc i) c j e)
+
+rightmost-at : (ms : List Met) (i c j : ℕ) → isMet (getD ms j Nobody) ≡ true → i + j ≤ rightmost isMet ms i c
+rightmost-at [] i c j e = let z : _≡_ {A = ℕ} 0 1 = cc in absurd (omega arith)
+rightmost-at (m ∷ ms) i c zero e = rw e (omega arith)
+rightmost-at (m ∷ ms) i c (suc j) e = omega (arith, rightmost-at ms (suc i) c j e)
+
+-- direct entries reach no farther than entries
+leftmost-direct : (ms : List Met) (i c : ℕ) → leftmost isMet ms i c ≤ leftmost (met isDirect) ms i c
+leftmost-direct [] i c = omega arith
+leftmost-direct (Nobody ∷ ms) i c = omega (arith, leftmost-direct ms (suc i) c)
+leftmost-direct (By e ∷ ms) i c = go (isDirect e) (leftmost-direct ms (suc i) c)
+  where
+    go : (b : Bool) → leftmost isMet ms (suc i) c ≤ leftmost (met isDirect) ms (suc i) c → min i (leftmost isMet ms (suc i) c) ≤ min (cond b i c) (leftmost (met isDirect) ms (suc i) c)
+    go true h = omega (arith, h)
+    go false h = omega (arith, h, leftmost-within isMet ms (suc i) c)
+
+rightmost-direct : (ms : List Met) (i c : ℕ) → rightmost (met isDirect) ms i c ≤ rightmost isMet ms i c
+rightmost-direct [] i c = omega arith
+rightmost-direct (Nobody ∷ ms) i c = omega (arith, rightmost-direct ms (suc i) c)
+rightmost-direct (By e ∷ ms) i c = go (isDirect e) (rightmost-direct ms (suc i) c)
+  where
+    go : (b : Bool) → rightmost (met isDirect) ms (suc i) c ≤ rightmost isMet ms (suc i) c → max (cond b i c) (rightmost (met isDirect) ms (suc i) c) ≤ max i (rightmost isMet ms (suc i) c)
+    go true h = omega (arith, h)
+    go false h = omega (arith, h, rightmost-within isMet ms (suc i) c)
+
+-- what holds of a column that the row does not reach
+pub record Unreached (b : AncestorColumnBounds) (w : Swap) (ms : List Met) (i : ℕ) : Type 0 where
+  pub nobody-met : getD ms i Nobody ≡ Nobody
+  pub elsewhere : eqb i (b .target) ≡ false
+  pub kept : isAt (w .«given_up») i ≡ false
+  pub no-stroke : passing b w i ≡ unmarked
+
+no-met : (m : Met) → (isMet m ≡ true → ⊥) → m ≡ Nobody
+no-met Nobody h = refl
+no-met (By e) h = absurd (h refl)
+
+up-left : (f : Found) (l i : ℕ) → i < min (orElse f l) l → isAt f i ≡ false
+up-left Nothing l i h = refl
+up-left (At p) l i h = ne-eqb p i (λ z. omega (arith, z))
+
+up-right : (f : Found) (l i : ℕ) → max (orElse f l) l < i → (isAt f i ≡ false) × (foundAs (ltb i) f ≡ false)
+up-right Nothing l i h = (refl, refl)
+up-right (At p) l i h = (ne-eqb p i (λ z. omega (arith, z)), le-ltb i p (omega arith))
+
+module _ (ms : List Met) (c : ℕ) (w : Swap) (i : ℕ) where
+  abbrev b : AncestorColumnBounds
+  b = boundsOf ms c
+
+  -- one to the left of what the row reaches
+  unreached-left : i < reachStart b w → Unreached b w ms i
+  unreached-left k =
+      let l : i < leftmost isMet ms 0 c = omega arith in
+      let n : i < c = omega (arith, leftmost-within isMet ms 0 c) in
+      record {
+        nobody-met = no-met _ (λ q. omega (arith, leftmost-at ms 0 c i q));
+        elsewhere = ne-eqb i c (λ z. omega (arith, z));
+        kept = up-left (w .«given_up») (leftmost isMet ms 0 c) i k;
+        no-stroke = rw (le-ltb (leftmost (met isDirect) ms 0 c) i (omega (arith, leftmost-direct ms 0 c)), le-ltb (leftmost isMet ms 0 c) i (omega arith), le-ltb c i (omega arith));
+      }
+
+  -- one to the right
+  unreached-right : reachLast b w < i → Unreached b w ms i
+  unreached-right k =
+      let l : rightmost isMet ms 0 c < i = omega arith in
+      let n : c < i = omega (arith, rightmost-within isMet ms 0 c) in
+      let u = up-right (w .«given_up») (rightmost isMet ms 0 c) i k in
+      record {
+        nobody-met = no-met _ (λ q. omega (arith, rightmost-at ms 0 c i q));
+        elsewhere = ne-eqb i c (λ z. omega (arith, z));
+        kept = u .0;
+        no-stroke = rw (le-ltb i (rightmost (met isDirect) ms 0 c) (omega (arith, rightmost-direct ms 0 c)), le-ltb i (rightmost isMet ms 0 c) (omega arith), u .1, none (ltb (leftmost (met isDirect) ms 0 c) i), none (ltb (leftmost isMet ms 0 c) i), none (ltb c i));
+      }
+
+pub unreached-before : (b : AncestorColumnBounds) (w : Swap) (ms : List Met) (c i : ℕ) → b ≡ boundsOf ms c → i < reachStart b w → Unreached b w ms i
+unreached-before b w ms c i e h = rw e (unreached-left ms c w i (rw e at h))
+
+pub unreached-after : (b : AncestorColumnBounds) (w : Swap) (ms : List Met) (c i : ℕ) → b ≡ boundsOf ms c → reachLast b w < i → Unreached b w ms i
+unreached-after b w ms c i e h = rw e (unreached-right ms c w i (rw e at h))

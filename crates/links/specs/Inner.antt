@@ -5,9 +5,10 @@ use lib.Dec.{ltb}
 use mathlib.Core.List.{List, map}
 use lib.ListN.{take}
 use Rattle.column.specs.declared.Column.{Column}
-use Rattle.column.specs.Columns.{isAncestor, isParent}
+use Rattle.column.specs.Columns.{isAncestor, isParent, orElse}
 use Rattle.render.specs.declared.render.Marks.{Marks}
 use Rattle.render.specs.Entries.{isDirect}
+use Rattle.render.specs.Link.{strokes}
 use Rattle.links.specs.declared.Met.{Met}
 use Rattle.links.specs.declared.AncestorColumnBounds.{AncestorColumnBounds}
 use Rattle.links.specs.declared.Met.the-variants.{Nobody, By}
@@ -45,9 +46,11 @@ drawnBy (Parent n) = By (Direct n)
 unfoldable pub metIn : ℕ → Met
 metIn w = drawnBy (columnIn w)
 
+-- the column of the parents' columns in a word
 unfoldable pub parentIn : ℕ → ParentColumn
 parentIn w = record { met = metIn w }
 
+-- an array of words as the parents' columns
 abbrev pub parentsIn : List ℕ → List ParentColumn
 parentsIn l = map parentIn l
 
@@ -59,27 +62,21 @@ mets n l = map (λ (p : ParentColumn). p .met) (take n l)
 abbrev pub fromNode : AncestorColumnBounds → Swap → ℕ → Met → Marks
 fromNode b w i m = marksOf b w i m false false
 
--- the same in a cell in which nothing of the row ends: the strokes that pass it (`horizontal_line`)
+-- the first column that the entries or the swap reach
+abbrev pub reachStart : AncestorColumnBounds → Swap → ℕ
+reachStart b w = min (orElse (w .«given_up») (b .«min_ancestor»)) (b .«min_ancestor»)
+
+-- the last one
+abbrev pub reachLast : AncestorColumnBounds → Swap → ℕ
+reachLast b w = max (orElse (w .«given_up») (b .«max_ancestor»)) (b .«max_ancestor»)
+
+-- the marks that come from the node in a cell in which nothing of the row ends (`horizontal_line`)
 abbrev pub passing : AncestorColumnBounds → Swap → ℕ → Marks
 passing b w i =
     let inner : Bool = ltb (b .«min_parent») i && ltb i (b .«max_parent») in
     let outer : Bool = ltb (b .«min_ancestor») i && ltb i (b .«max_ancestor») in
     let bar : Bool = ltb (b .target) i && foundAs (ltb i) (w .«given_up») in
-    record {
-      «horiz_parent» = inner || (bar && w .«was_direct»);
-      «horiz_ancestor» = (not inner && outer) || (bar && not (w .«was_direct»));
-      «vert_parent» = false;
-      «vert_ancestor» = false;
-      «left_fork_parent» = false;
-      «left_fork_ancestor» = false;
-      «right_fork_parent» = false;
-      «right_fork_ancestor» = false;
-      «left_merge_parent» = false;
-      «left_merge_ancestor» = false;
-      «right_merge_parent» = false;
-      «right_merge_ancestor» = false;
-      child = false;
-    }
+    strokes (inner || (bar && w .«was_direct»)) ((not inner && outer) || (bar && not (w .«was_direct»)))
 
 -- those, with the line of the column before the entries where it was not given up
 abbrev pub withUprights : Bool → Column → Marks → Marks

@@ -1,11 +1,11 @@
 // The marks of a row's link line, after graph_to_row_shape.rs.
 ghost use mathlib.Core.Path.{_≡_};
 ghost use mathlib.Core.Bool.{true, cond, not};
-ghost use Prim.Native.Nat.{min, max};
+ghost use Prim.Native.Nat.{_+_, min, max};
 ghost use lib.Dec.{ltb, eqb};
 ghost use Rattle.render.specs.Entries.{isDirect, isAnonymous};
 ghost use Rattle.links.specs.Links.{met as metAs, isMet, foundAs, isAt, linked, boundsOf};
-ghost use Rattle.links.specs.Inner.{reaching as reachingOf, metIn, parentsIn, mets, fromNode, passing as passingIn, withUprights};
+ghost use Rattle.links.specs.Inner.{reaching as reachingOf, metIn, parentsIn, mets, fromNode, passing as passingIn, withUprights, reachStart, reachLast};
 use column::Column;
 use column::Found;
 use render::Ancestor;
@@ -154,6 +154,41 @@ impl AncestorColumnBounds {
         bounds
     }
 
+    // The first column that the entries or the swap reach.
+    pub fn reach_start(self, swap: Swap) -> usize
+        ensures { λ r. ⌜ r ≡ reachStart self swap ⌝ }
+    {
+        let first = self.min_ancestor;
+        let given_up = swap.given_up;
+        match given_up {
+            Found::At(place) => least(place, first),
+            Found::Nothing => first,
+        }
+    }
+
+    // The last column that they reach.
+    fn reach_last(self, swap: Swap) -> usize
+        ensures { λ r. ⌜ r ≡ reachLast self swap ⌝ }
+    {
+        let last = self.max_ancestor;
+        let given_up = swap.given_up;
+        match given_up {
+            Found::At(place) => greatest(place, last),
+            Found::Nothing => last,
+        }
+    }
+
+    // Where the columns end that they reach, of the first `width` ones.
+    pub fn reach_end(self, swap: Swap, width: usize) -> usize
+        ensures { λ r. ⌜ r ≡ min (reachLast self swap + 1) width ⌝ }
+    {
+        let last = self.reach_last(swap);
+        if last < width {
+            return last + 1;
+        }
+        width
+    }
+
     // Whether the row has a link line: an entry's column, or the one given up, is not the node's own.
     pub fn need_link_line(self, swap: Swap) -> bool
         ensures { λ r. ⌜ r ≡ linked self swap ⌝ }
@@ -236,21 +271,10 @@ pub fn passing(bounds: AncestorColumnBounds, swap: Swap, index: usize) -> Marks
     let inner = (bounds.min_parent < index) & (index < bounds.max_parent);
     let outer = (bounds.min_ancestor < index) & (index < bounds.max_ancestor);
     let bar = (bounds.target < index) & is_before(index, given_up);
-    Marks {
-        horiz_parent: inner | (bar & solid),
-        horiz_ancestor: (!inner & outer) | (bar & !solid),
-        vert_parent: false,
-        vert_ancestor: false,
-        left_fork_parent: false,
-        left_fork_ancestor: false,
-        right_fork_parent: false,
-        right_fork_ancestor: false,
-        left_merge_parent: false,
-        left_merge_ancestor: false,
-        right_merge_parent: false,
-        right_merge_ancestor: false,
-        child: false,
-    }
+    let mut out = Marks::none();
+    out.horiz_parent = inner | (bar & solid);
+    out.horiz_ancestor = (!inner & outer) | (bar & !solid);
+    out
 }
 
 // Those marks with the lines that go straight on: the column's before the entries, but not where it was given up (`link_line`).

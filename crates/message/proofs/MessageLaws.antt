@@ -7,7 +7,7 @@ use native.Mathlib.Nat.{not-suc-le-zero}
 use native.Mathlib.Numerals.{add-one}
 use native.Mathlib.Omega.{arith}
 use lib.Dec.{eqb, ltb, lit≤}
-use lib.ListN.{length, take, drop, getD, drop-of-length-le, length-append, length-drop, length-take}
+use lib.ListN.{length, take, drop, getD, take-append-drop, drop-of-length-le, length-append, length-drop, length-take}
 use lib.Seq.{drop-cons, take-suc, length-take-le, drop-drop}
 use borrow.Author.Tests.{eq-eqb, ne-eqb, ltb-true, ltb-false}
 use Rattle.glyphs.specs.Characters.{newline}
@@ -49,6 +49,49 @@ ends-next s i x h e = rw (add-one i, drop-cons s i 0 h, ← e)
 
 pub ends-none : (s : List ℕ) (i : ℕ) → length s ≤ i → ends (drop i s) ≡ 0
 ends-none s i h = rw (drop-of-length-le s {i = i} h)
+
+-- ---- line ends by blocks
+ends-append : (a b : List ℕ) → ends (a ++ b) ≡ ends a + ends b
+ends-append [] b = omega arith
+ends-append (x ∷ a) b = rw (ends-append a b) (omega arith)
+
+-- the bytes from a up to b
+abbrev pub block : ℕ → ℕ → List ℕ → List ℕ
+block a b m = take (b - a) (drop a m)
+
+pub block-long : (m : List ℕ) (a b : ℕ) → b ≤ length m → length (block a b m) ≡ b - a
+block-long m a b h = length-take-le (b - a) (drop a m) (rw (length-drop a m) (omega arith))
+
+-- what is left from a on is a block and what is left behind it
+block-apart : (m : List ℕ) (a b : ℕ) → a ≤ b → drop a m ≡ block a b m ++ drop b m
+block-apart m a b h =
+    let e : a + (b - a) ≡ b = omega arith in
+    sym (take-append-drop (b - a) (drop a m)) ∙ ap (λ (r : List ℕ). block a b m ++ r) (drop-drop (b - a) a m ∙ ap (λ (k : ℕ). drop k m) e)
+
+pub ends-block : (m : List ℕ) (a b : ℕ) → a ≤ b → ends (drop a m) ≡ ends (block a b m) + ends (drop b m)
+ends-block m a b h = ap ends (block-apart m a b h) ∙ ends-append (block a b m) (drop b m)
+
+pub ends-few : (m : List ℕ) → ends m ≤ length m
+ends-few [] = omega arith
+ends-few (x ∷ m) = go (eqb x newline) (ends-few m)
+  where
+    go : (t : Bool) → ends m ≤ length m → cond t 1 0 + ends m ≤ suc (length m)
+    go true h = omega arith
+    go false h = omega arith
+
+-- a line goes on behind bytes that end none
+line-append : (a b : List ℕ) → ends a ≡ 0 → lineLength (a ++ b) ≡ length a + lineLength b
+line-append [] b e = omega arith
+line-append (x ∷ a) b e = go (eqb x newline) refl (line-append a b)
+  where
+    go : (t : Bool) → eqb x newline ≡ t → (ends a ≡ 0 → lineLength (a ++ b) ≡ length a + lineLength b) → cond (eqb x newline) 0 (suc (lineLength (a ++ b))) ≡ suc (length a) + lineLength b
+    go true q r = let z : 1 + ends a ≡ 0 = rw q at e in absurd (omega (arith, z))
+    go false q r = let z : 0 + ends a ≡ 0 = rw q at e in rw q (omega (arith, r (omega (arith, z))))
+
+pub line-block : (m : List ℕ) (a b : ℕ) → a ≤ b → b ≤ length m → ends (block a b m) ≡ 0 → a + lineLength (drop a m) ≡ b + lineLength (drop b m)
+line-block m a b h k e =
+    let w : lineLength (drop a m) ≡ length (block a b m) + lineLength (drop b m) = ap lineLength (block-apart m a b h) ∙ line-append (block a b m) (drop b m) e in
+    omega (arith, w, block-long m a b k)
 
 onto-long : (b : ℕ) (l : List (List ℕ)) → 0 < length l → length (onto b l) ≡ length l
 onto-long b [] h = absurd (not-suc-le-zero h)

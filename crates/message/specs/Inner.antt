@@ -9,3 +9,7 @@ use Rattle.glyphs.specs.Characters.{newline}
 abbrev pub ends : List ℕ → ℕ
 ends [] = 0
 ends (b ∷ bs) = cond (eqb b newline) 1 0 + ends bs
+
+-- the bytes whose line ends are counted at once
+abbrev pub blockLength : ℕ
+blockLength = 64

@@ -2,7 +2,7 @@
 use Prim.Native.Nat.{ℕ, zero, suc, _+_, _≤_, _<_, min, max}
 use mathlib.Core.Path.{_≡_, refl, ap, _∙_, sym}
 use mathlib.Core.Bool.{Bool, true, false, cond, not, _||_}
-use mathlib.Core.List.{List, [], _∷_, map}
+use mathlib.Core.List.{List, [], _∷_, _++_, map, append-nil}
 use native.Mathlib.Numerals.{add-one}
 use native.Mathlib.Omega.{arith}
 use lib.Dec.{ltb, leb, eqb}
@@ -21,7 +21,7 @@ use Rattle.column.proofs.Positions.{length-put, put-skip, at-live}
 use Rattle.render.specs.declared.render.Ancestor.{Ancestor as Entry}
 use Rattle.render.specs.declared.render.Entry.{Entry as Entry₁}
 use Rattle.render.specs.declared.render.Entries.{Entries}
-use Rattle.render.specs.Entries.{entryLimit, listed}
+use Rattle.render.specs.Entries.{entryLimit, isAnonymous, anyOf, listed}
 use Rattle.render.specs.declared.render.Ancestor.the-variants.{Ancestor as Indirect, Parent as Direct, Anonymous}
 use Rattle.links.specs.declared.Met.the-variants.{Nobody, By}
 use Rattle.links.specs.Inner.{ParentColumn, drawnBy, parentIn, parentsIn}
@@ -30,7 +30,7 @@ use Rattle.column.specs.Codes.{slotIn, slotsIn}
 use Rattle.column.proofs.CodeLaws.{length-slots, getD-slots, set-slots, slot-zero}
 use Rattle.links.specs.declared.Swap.{Swap}
 use Rattle.placing.specs.Placing.{columnOf, heldBy, spot, enter, walk, metBy}
-use Rattle.placing.specs.Inner.{Columns, columnsOf, nobody, metAt, Opens, entered, lastSpot, Went, Walks, Settled, swappedIn, settled}
+use Rattle.placing.specs.Inner.{Columns, columnsOf, nobody, metAt, Opens, entered, lastSpot, Went, Walks, Settled, settled}
 
 -- ---- the column of an entry
 module _ (c : ℕ) (e : Entry) (cs : List Column) where
@@ -167,8 +167,16 @@ met-none j = go (ltb j columnLimit) refl
     go false q =
         rw (List·getD-eq-default (replicate columnLimit nobody) nobody {n = j} (rw (length-replicate columnLimit nobody) (ltb-false _ _ q)))
 
+or-assoc : (x y z : Bool) → ((x || y) || z) ≡ (x || (y || z))
+or-assoc true y z = refl
+or-assoc false y z = refl
+
+or-none : (x : Bool) → (x || false) ≡ x
+or-none true = refl
+or-none false = refl
+
 -- what the walk keeps once i entries are in: the columns and who drew are what is left to do from there
-pub record Going (bare : Columns) (c : ℕ) (es : List Entry) (i : ℕ) (slots : List Slot) (count : ℕ) (parents : List ParentColumn) (last : ℕ) : Type 0 where
+pub record Going (bare : Columns) (c : ℕ) (es : List Entry) (i : ℕ) (slots : List Slot) (count : ℕ) (parents : List ParentColumn) (last : ℕ) (said : Bool) : Type 0 where
   pub long : length slots ≡ columnLimit
   pub wide : length parents ≡ columnLimit
   pub fits : count ≤ columnLimit
@@ -176,10 +184,11 @@ pub record Going (bare : Columns) (c : ℕ) (es : List Entry) (i : ℕ) (slots :
   pub columns : walk c (drop i es) (live count slots) ≡ walk c es (columnsOf bare)
   pub met : (j : ℕ) → metBy j c (drop i es) (live count slots) (metAt parents j) ≡ metBy j c es (columnsOf bare) Nobody
   pub spot-left : lastSpot c (drop i es) (live count slots) last ≡ lastSpot c es (columnsOf bare) 0
+  pub said-left : (said || anyOf isAnonymous (drop i es)) ≡ anyOf isAnonymous es
 
 module _ (bare : Columns) (c : ℕ) (es : List Entry) where
   pub going-start : (parents : List ParentColumn) → length (bare .slots) ≡ columnLimit → bare .count ≤ columnLimit → parents ≡ replicate columnLimit nobody
-      → Going bare c es 0 (bare .slots) (bare .count) parents 0
+      → Going bare c es 0 (bare .slots) (bare .count) parents 0 false
   going-start parents long h p =
       record {
         long = long;
@@ -189,9 +198,10 @@ module _ (bare : Columns) (c : ℕ) (es : List Entry) where
         columns = refl;
         met = λ j. rw (p, met-none j);
         spot-left = refl;
+        said-left = refl;
       }
 
-  module _ (i : ℕ) (slots : List Slot) (count : ℕ) (parents : List ParentColumn) (last : ℕ) (g : Going bare c es i slots count parents last)
+  module _ (i : ℕ) (slots : List Slot) (count : ℕ) (parents : List ParentColumn) (last : ℕ) (said : Bool) (g : Going bare c es i slots count parents last said)
       (e : Entry) (d : drop i es ≡ e ∷ drop (suc i) es) (index : ℕ) (k : index ≡ spot c e (live count slots)) where
     abbrev now : List Column
     now = live count slots
@@ -218,7 +228,7 @@ module _ (bare : Columns) (c : ℕ) (es : List Entry) where
           live-put count index m slots s a inside r
           ∙ rw (f, ← at-live count slots index a, k)
 
-      pub going-next : Going bare c es (i + 1) (set slots index s) m (set parents index (record { met = By e })) index
+      pub going-next : Going bare c es (i + 1) (set slots index s) m (set parents index (record { met = By e })) index (said || isAnonymous e)
       going-next =
           record {
             long = length-set slots index s ∙ g .long;
@@ -230,30 +240,33 @@ module _ (bare : Columns) (c : ℕ) (es : List Entry) where
                 rw (add-one i, next, met-set parents index j e (rw (g .wide) h), k)
                 (ap (λ (t : List Entry). metBy j c t now (metAt parents j)) (sym d) ∙ g .met j);
             spot-left = rw (add-one i, next, k) (ap (λ (t : List Entry). lastSpot c t now last) (sym d) ∙ g .spot-left);
+            said-left = rw (add-one i) (or-assoc said (isAnonymous e) (anyOf isAnonymous (drop (suc i) es)) ∙ ap (λ (t : List Entry). said || anyOf isAnonymous t) (sym d) ∙ g .said-left);
           }
 
-  module _ (i : ℕ) (slots : List Slot) (count : ℕ) (parents : List ParentColumn) (last : ℕ) (g : Going bare c es i slots count parents last) where
+  module _ (i : ℕ) (slots : List Slot) (count : ℕ) (parents : List ParentColumn) (last : ℕ) (said : Bool) (g : Going bare c es i slots count parents last said) where
     pub walked-over : columnLimit < length (walk c es (columnsOf bare))
-        → Walks bare c es (record { fits = false; slots = slots; count = count; parents = parents; spot = last })
+        → Walks bare c es (record { fits = false; slots = slots; count = count; parents = parents; spot = last; anonymous = said })
     walked-over h =
         record {
           over = λ z. h;
           columns = λ z. let y : _≡_ {A = ℕ} 0 1 = cc in absurd (omega arith);
           met = λ z. let y : _≡_ {A = ℕ} 0 1 = cc in absurd (omega arith);
           last = λ z. let y : _≡_ {A = ℕ} 0 1 = cc in absurd (omega arith);
+          ends = λ z. let y : _≡_ {A = ℕ} 0 1 = cc in absurd (omega arith);
           within = g .within;
           long = g .long;
           wide = g .wide;
           fitting = g .fits;
         }
 
-    pub walked-done : drop i es ≡ [] → Walks bare c es (record { fits = true; slots = slots; count = count; parents = parents; spot = last })
+    pub walked-done : drop i es ≡ [] → Walks bare c es (record { fits = true; slots = slots; count = count; parents = parents; spot = last; anonymous = said })
     walked-done d =
         record {
           over = λ z. let y : _≡_ {A = ℕ} 0 1 = cc in absurd (omega arith);
           columns = λ z. ap (λ (t : List Entry). walk c t (live count slots)) (sym d) ∙ g .columns;
           met = λ z j. ap (λ (t : List Entry). metBy j c t (live count slots) (metAt parents j)) (sym d) ∙ g .met j;
           last = λ z. ap (λ (t : List Entry). lastSpot c t (live count slots) last) (sym d) ∙ g .spot-left;
+          ends = λ z. sym (or-none said) ∙ ap (λ (t : List Entry). said || anyOf isAnonymous t) (sym d) ∙ g .said-left;
           within = g .within;
           long = g .long;
           wide = g .wide;
@@ -261,17 +274,24 @@ module _ (bare : Columns) (c : ℕ) (es : List Entry) where
         }
 
 -- the same of words
-pub going-code : (bare : Columns) (c : ℕ) (es : List Entry) (i : ℕ) (codes : List ℕ) (count : ℕ) (parents : List ℕ) (last : ℕ)
-    → Going bare c es i (slotsIn codes) count (parentsIn parents) last → (e : Entry) → drop i es ≡ e ∷ drop (suc i) es → (index : ℕ) → index ≡ spot c e (live count (slotsIn codes))
+pub going-code : (bare : Columns) (c : ℕ) (es : List Entry) (i : ℕ) (codes : List ℕ) (count : ℕ) (parents : List ℕ) (last : ℕ) (said : Bool)
+    → Going bare c es i (slotsIn codes) count (parentsIn parents) last said → (e : Entry) → drop i es ≡ e ∷ drop (suc i) es → (index : ℕ) → index ≡ spot c e (live count (slotsIn codes))
     → index < columnLimit → (m : ℕ) → m ≡ min (max count (index + 1)) columnLimit → (w v : ℕ) → slotIn w ≡ entered (slotIn (getD codes index 0)) index count e
-    → parentIn v ≡ record { met = By e } → Going bare c es (i + 1) (slotsIn (set codes index w)) m (parentsIn (set parents index v)) index
-going-code bare c es i codes count parents last g e d index k h m q w v a b =
-    rw (set-slots codes index w, set-parents parents index v, b)
-    (going-next bare c es i (slotsIn codes) count (parentsIn parents) last g e d index k h m q (slotIn w) (rw (getD-slots codes index) a))
+    → parentIn v ≡ record { met = By e } → (x : Bool) → x ≡ isAnonymous e → Going bare c es (i + 1) (slotsIn (set codes index w)) m (parentsIn (set parents index v)) index (said || x)
+going-code bare c es i codes count parents last said g e d index k h m q w v a b x y =
+    rw (set-slots codes index w, set-parents parents index v, b, y)
+    (going-next bare c es i (slotsIn codes) count (parentsIn parents) last said g e d index k h m q (slotIn w) (rw (getD-slots codes index) a))
 
-pub parents-none : (n : ℕ) → parentsIn (replicate n 0) ≡ replicate n nobody
+parents-none : (n : ℕ) → parentsIn (replicate n 0) ≡ replicate n nobody
 parents-none zero = refl
 parents-none (suc n) = rw (parent-zero, parents-none n)
+
+pub none-drawn : (d l : List ℕ) → length d ≡ columnLimit → l ≡ replicate (length d) 0 → parentsIn l ≡ replicate columnLimit nobody
+none-drawn d l h e = ap parentsIn e ∙ parents-none (length d) ∙ ap (λ (n : ℕ). replicate n nobody) h
+
+-- an array that is filled to its end
+pub filled-all : (d l : List ℕ) (n : ℕ) → n ≡ length d → l ≡ replicate n 0 ++ drop n d → l ≡ replicate (length d) 0
+filled-all d l n e q = q ∙ rw (drop-of-length-le d {i = n} (omega arith)) (append-nil (replicate n 0)) ∙ ap (λ (k : ℕ). replicate k 0) e
 
 -- the entries of an array
 abbrev pub given : ℕ → List Entry₁ → List Entry
@@ -305,6 +325,7 @@ walks-read bare c es count n r long wide e f p =
       columns = λ z. rw (b, l) at (p .columns z);
       met = λ z i. rw (b, l) at (p .met z i);
       last = λ z. rw (b, l) at (p .last z);
+      ends = λ z. rw l at (p .ends z);
       within = p .within;
       long = p .long;
       wide = p .wide;
@@ -335,6 +356,23 @@ module _ (l : List Slot) (ps : List ParentColumn) (k : ℕ) (bare : Columns) (c 
       go true false e true f z = let y : _≡_ {A = ℕ} 0 1 = cc in absurd (omega arith)
       go true true e b f z = let y : _≡_ {A = ℕ} 0 1 = cc in absurd (omega arith)
       go false a e b f z = let y : _≡_ {A = ℕ} 0 1 = cc in absurd (omega arith)
+
+-- the swap keeps the number of parents' columns
+settled-wide : (l : List Slot) (ps : List ParentColumn) (k : ℕ) (bare : Columns) (c : ℕ) (single : Bool) → length (settled l ps k bare c single .parents) ≡ length ps
+settled-wide l ps k bare c single = go (stays l ps k bare c single) refl
+  where
+    go : (t : Bool) → stays l ps k bare c single ≡ t → length (settled l ps k bare c single .parents) ≡ length ps
+    go true q = rw q
+    go false q = rw q (length-set (set ps k nobody) c (getD ps k nobody) ∙ length-set ps k nobody)
+
+pub settled-long : (bare : Columns) (c : ℕ) (es : List Entry) (w : Went) (single : Bool) (r : Settled) (out : List ℕ) → Walks bare c es w
+    → r ≡ settled (w .slots) (w .parents) (w .spot) bare c single → parentsIn out ≡ r .parents → columnLimit ≡ length out
+settled-long bare c es w single r out p e q =
+    sym
+    (sym (length-parents out)
+    ∙ ap length (q ∙ ap (λ (x : Settled). x .parents) e)
+    ∙ settled-wide (w .slots) (w .parents) (w .spot) bare c single
+    ∙ p .wide)
 
 -- the same of words
 pub swapped-codes : (l ps bare : List ℕ) (k c count : ℕ) (single : Bool) (a b : List ℕ) (old : Column) (w : Swap) → (not single || (leb k c || leb columnLimit k)) ≡ false

@@ -4,22 +4,22 @@ use mathlib.Core.Path.{_≡_, refl, ap, _∙_, sym}
 use mathlib.Core.Bool.{Bool, true, false, cond, not, _||_}
 use mathlib.Core.List.{List, [], _∷_}
 use native.Mathlib.Omega.{arith}
-use lib.Dec.{leb, eqb}
+use lib.Dec.{ltb, leb, eqb}
 use lib.ListN.{length, getD, set, length-set}
 use lib.Seq.{getD-set-same, getD-set-other}
 use borrow.Author.Tests.{lt-ltb, le-ltb, lt-leb, leb-true, leb-false, eq-eqb, ne-eqb, eqb-true, eqb-false}
 use Rattle.column.specs.declared.Column.{Column}
 use Rattle.column.specs.declared.Column.the-variants.{Empty}
 use Rattle.column.specs.declared.Found.the-variants.{At, Nothing}
-use Rattle.column.specs.declared.Slot.{Slot}
 use Rattle.column.specs.Columns.{columnLimit, isParent, orElse, merge, at, put, live, emptySlot, columnAt}
 use Rattle.column.proofs.Front.{length-front, front-set}
 use Rattle.column.proofs.Laws.{columnOf as slotColumn, live-at, put-set}
-use Rattle.column.proofs.Positions.{length-put, at-live}
+use Rattle.column.proofs.Positions.{at-put-other, length-put, at-live}
 use Rattle.render.specs.declared.render.Ancestor.{Ancestor as Entry}
 use Rattle.links.specs.declared.Met.the-variants.{Nobody, By}
+use Rattle.links.specs.Links.{isAt}
 use Rattle.links.specs.Inner.{ParentColumn}
-use Rattle.placing.specs.Placing.{columnOf, spot, walk, gaveUp, swap, swapped, drawsAt}
+use Rattle.placing.specs.Placing.{columnOf, spot, enter, walk, metBy, gaveUp, swap, swapped, drawsAt}
 use Rattle.placing.specs.Inner.{Columns, columnsOf, nobody, metAt, Went, Walks, Settled, settled}
 
 -- what settling gives, in the words of the definitions
@@ -133,3 +133,47 @@ module _ (c : ℕ) (bs : List Column) (bare : Columns) (b-is : columnsOf bare �
   settles [] p single q = stays [] p single refl (rw q)
   settles (e ∷ []) p single q = rw q (settles-one e p (leb (w .spot) c) refl)
   settles (e ∷ f ∷ es) p single q = stays (e ∷ f ∷ es) p single refl (rw (q, ne-eqb (suc (suc (length es))) 1 (λ z. omega arith)))
+
+-- ---- columns in which nothing of the row ends
+
+some-draws : (i c : ℕ) (es : List Entry) (cs : List Column) (e : Entry) → metBy i c es cs (By e) ≡ Nobody → ⊥
+some-draws i c [] cs e h = let z : _≡_ {A = ℕ} 0 1 = cc in omega arith
+some-draws i c (f ∷ es) cs e h = go (eqb i (spot c f cs)) refl (some-draws i c es (enter c f cs))
+  where
+    go : (b : Bool) → eqb i (spot c f cs) ≡ b → ((g : Entry) → metBy i c es (enter c f cs) (By g) ≡ Nobody → ⊥) → ⊥
+    go true q r = r f (rw q at h)
+    go false q r = r e (rw q at h)
+
+-- a column that no entry met is as it was
+walk-kept : (i c : ℕ) (es : List Entry) (cs : List Column) → metBy i c es cs Nobody ≡ Nobody → at cs i ≡ at (walk c es cs) i
+walk-kept i c [] cs h = refl
+walk-kept i c (e ∷ es) cs h = go (eqb i (spot c e cs)) refl (walk-kept i c es (enter c e cs))
+  where
+    go : (b : Bool) → eqb i (spot c e cs) ≡ b → (metBy i c es (enter c e cs) Nobody ≡ Nobody → at (enter c e cs) i ≡ at (walk c es (enter c e cs)) i) → at cs i ≡ at (walk c es (enter c e cs)) i
+    go true q r = absurd (some-draws i c es (enter c e cs) e (rw q at h))
+    go false q r = sym (at-put-other cs (spot c e cs) (merge (at cs (spot c e cs)) (columnOf e)) i (eqb-false i (spot c e cs) q)) ∙ r (rw q at h)
+
+-- neither the entries nor the swap change a column in which nobody draws, but for the node's and the one given up
+pub settled-kept : (i c : ℕ) (es : List Entry) (cs : List Column) → drawsAt (gaveUp c es cs) c es cs i ≡ Nobody → eqb i c ≡ false → isAt (gaveUp c es cs) i ≡ false
+    → at cs i ≡ at (swapped (gaveUp c es cs) c (walk c es cs)) i
+settled-kept i c [] cs d n g = refl
+settled-kept i c (e ∷ []) cs d n g = go (ltb c (spot c e cs)) refl
+  where
+    k : ℕ
+    k = spot c e cs
+
+    ws : List Column
+    ws = enter c e cs
+
+    go : (b : Bool) → ltb c k ≡ b → at cs i ≡ at (swapped (cond b (At k) Nothing) c ws) i
+    go true q =
+        let m : eqb k i ≡ false = rw q at g in
+        let o : i ≡ k → ⊥ = λ z. eqb-false k i m (sym z) in
+        sym (at-put-other (put ws c (at ws k)) k (at ws c) i o ∙ at-put-other ws c (at ws k) i (eqb-false i c n) ∙ at-put-other cs k (merge (at cs k) (columnOf e)) i o)
+    go false q = walk-kept i c (e ∷ []) cs (rw q at d)
+settled-kept i c (e ∷ f ∷ es) cs d n g = walk-kept i c (e ∷ f ∷ es) cs d
+
+pub settles-kept : (es : List Entry) (c : ℕ) (bs : List Column) (count : ℕ) (r : Settled) → Settles es c bs count r
+    → (i : ℕ) → metAt (r .parents) i ≡ Nobody → eqb i c ≡ false → isAt (r .swap .«given_up») i ≡ false → at bs i ≡ at (live count (r .slots)) i
+settles-kept es c bs count r s i d n g =
+    settled-kept i c es bs (sym (s .draws i) ∙ d) n (rw (s .up) at g) ∙ ap (λ (x : List Column). at x i) (sym (s .columns))

@@ -11,6 +11,7 @@ use Rattle.column.specs.declared.Found.the-variants.{At, Nothing}
 use Rattle.column.specs.declared.Slot.{Slot}
 use Rattle.column.specs.Columns.{columnLimit, isParent, merge, put, live, emptySlot, columnAt}
 use Rattle.render.specs.declared.render.Ancestor.{Ancestor as Entry}
+use Rattle.render.specs.Entries.{isAnonymous, anyOf}
 use Rattle.links.specs.declared.Met.{Met}
 use Rattle.links.specs.declared.Met.the-variants.{Nobody}
 use Rattle.links.specs.declared.Swap.{Swap}
@@ -24,9 +25,11 @@ pub record Columns : Type 0 where
   pub slots : List Slot
   pub count : ℕ
 
+-- the columns that they stand for
 abbrev pub columnsOf : Columns → List Column
 columnsOf c = live (c .count) (c .slots)
 
+-- a column in which nobody draws
 abbrev pub nobody : ParentColumn
 nobody = record { met = Nobody }
 
@@ -40,6 +43,7 @@ pub record Opens (slots : List Slot) (count column : ℕ) (r : Columns) : Type 0
   pub long : length (r .slots) ≡ columnLimit
   pub fits : r .count ≤ columnLimit
 
+-- the slot at i, of n that are live, after an entry merged into it
 abbrev pub entered : Slot → ℕ → ℕ → Entry → Slot
 entered s i n e = record { column = merge (columnAt s i n) (columnOf e) }
 
@@ -55,15 +59,20 @@ pub record Went : Type 0 where
   pub count : ℕ
   pub parents : List ParentColumn
   pub spot : ℕ
+  pub anonymous : Bool
 
-abbrev pub wentOf : Walked → List ℕ → Went
-wentOf w codes = record { fits = w .fits; slots = slotsIn codes; count = w .count; parents = parentsIn (w .parents); spot = w .spot }
+-- the same, by the words of the columns and of who draws
+abbrev pub wentOf : Walked → List ℕ → List ℕ → Went
+wentOf w codes parents =
+    record { fits = w .fits; slots = slotsIn codes; count = w .count; parents = parentsIn parents; spot = w .spot; anonymous = w .anonymous }
 
+-- what the walk gives: the columns, who draws in each, the last entry's column, and whether an entry is Anonymous; if not all fit, that they do not
 pub record Walks (bare : Columns) (c : ℕ) (es : List Entry) (r : Went) : Type 0 where
   pub over : r .fits ≡ false → columnLimit < length (walk c es (columnsOf bare))
   pub columns : r .fits ≡ true → live (r .count) (r .slots) ≡ walk c es (columnsOf bare)
   pub met : r .fits ≡ true → (i : ℕ) → metAt (r .parents) i ≡ metBy i c es (columnsOf bare) Nobody
   pub last : r .fits ≡ true → r .spot ≡ lastSpot c es (columnsOf bare) 0
+  pub ends : r .fits ≡ true → r .anonymous ≡ anyOf isAnonymous es
   pub within : r .spot < columnLimit
   pub long : length (r .slots) ≡ columnLimit
   pub wide : length (r .parents) ≡ columnLimit

@@ -1,7 +1,8 @@
 // Where a row's node and its entries go, after graph_to_row_shape.rs.
 ghost use mathlib.Core.Path.{_≡_};
 ghost use Prim.Native.Nat.{_<_, min};
-ghost use lib.ListN.{getD, set};
+ghost use lib.Dec.{eqb};
+ghost use lib.ListN.{length, getD, set, replicate};
 ghost use Rattle.column.specs.Columns.{columnLimit, isParent, live};
 ghost use Rattle.column.specs.Codes.{slotIn, slotsIn};
 ghost use Rattle.links.specs.Inner.{parentIn, parentsIn};
@@ -17,13 +18,13 @@ use render::Ancestor;
 use render::ENTRY_LIMIT;
 use render::Entries;
 
-// What the walk over the entries gives beside the columns: whether they fit, how many there are, who drew in each (the column that the
-// entry merges as, in a word), and the last entry's column.
+// What the walk over the entries gives beside the columns and who draws in each: whether they fit, how many there are, the last entry's
+// column, and whether an entry is Anonymous.
 pub struct Walked {
     pub fits: bool,
     pub count: usize,
-    pub parents: [u64; COLUMN_LIMIT],
     pub spot: usize,
+    pub anonymous: bool,
 }
 
 // The column that an entry merges as.
@@ -110,39 +111,57 @@ fn entry_count(count: usize) -> usize
     }
 }
 
-// Lets the entries merge into the columns, in order.
-pub fn walk(codes: &mut [u64; COLUMN_LIMIT], live: usize, column: usize, entries: Entries) -> Walked
-    ensures { λ r. ⌜ Walks (record { slots = slotsIn (now (codes .entry)); count = live }) column (listed entries) (wentOf r (now (codes .exit))) ⌝ }
+// Nobody draws in any column.
+fn clear_all(parents: &mut [u64])
+    ensures { λ r. ⌜ now (parents .exit) ≡ replicate (length (now (parents .entry))) 0 ⌝ }
 {
-    let list = entries.list;
+    let mut at: usize = 0;
+    while at < parents.len() {
+        parents[at] = 0;
+        at += 1;
+    }
+}
+
+// Lets the entries merge into the columns, in order, and says who draws in each: the column that the entry merges as, in a word.
+pub fn walk(
+    codes: &mut [u64; COLUMN_LIMIT],
+    parents: &mut [u64; COLUMN_LIMIT],
+    live: usize,
+    column: usize,
+    entries: Entries,
+) -> Walked
+    ensures { λ r. ⌜ Walks (record { slots = slotsIn (now (codes .entry)); count = live }) column (listed entries) (wentOf r (now (codes .exit)) (now (parents .exit))) ⌝ }
+{
     let n = entry_count(entries.count);
     let mut count = column::live_words(codes, live);
-    let mut parents = [0u64; COLUMN_LIMIT];
+    clear_all(parents);
     let mut spot: usize = 0;
+    let mut anonymous = false;
     let mut i: usize = 0;
     while i < n {
-        let entry = list[i];
+        let entry = entries.list[i];
         let ancestor = entry.ancestor;
         let index = entry_column(codes, count, column, ancestor);
         if COLUMN_LIMIT <= index {
             return Walked {
                 fits: false,
                 count,
-                parents,
                 spot,
+                anonymous,
             };
         }
         codes[index] = entered(codes[index], index, count, ancestor);
         count = column::count_with(count, index);
         parents[index] = drawn(ancestor);
         spot = index;
+        anonymous = anonymous | ancestor.is_anonymous();
         i += 1;
     }
     Walked {
         fits: true,
         count,
-        parents,
         spot,
+        anonymous,
     }
 }
 
@@ -173,7 +192,7 @@ fn swap_columns(
     }
 }
 
-// A single entry whose column lies right of the node swaps columns with it. Before the entries there were `count` columns, `bare`.
+// A single entry whose column lies right of the node swaps columns with it. Before the `entries` there were `count` columns, `bare`.
 pub fn settle(
     codes: &mut [u64; COLUMN_LIMIT],
     parents: &mut [u64; COLUMN_LIMIT],
@@ -181,12 +200,12 @@ pub fn settle(
     count: usize,
     spot: usize,
     column: usize,
-    single: bool,
+    entries: usize,
 ) -> Swap
     ensures { λ r. ⌜ record { slots = slotsIn (now (codes .exit)); parents = parentsIn (now (parents .exit)); swap = r }
-        ≡ settledOf (slotsIn (now (codes .entry))) (parentsIn (now (parents .entry))) spot (record { slots = slotsIn (now (bare .entry)); count = count }) column single ⌝ }
+        ≡ settledOf (slotsIn (now (codes .entry))) (parentsIn (now (parents .entry))) spot (record { slots = slotsIn (now (bare .entry)); count = count }) column (eqb entries 1) ⌝ }
 {
-    if !single | ((spot <= column) | (COLUMN_LIMIT <= spot)) {
+    if (entries != 1) | ((spot <= column) | (COLUMN_LIMIT <= spot)) {
         let given_up = Found::Nothing;
         return Swap {
             given_up,

@@ -33,6 +33,7 @@ abbrev pub frameLength : Frame → ℕ
 frameLength Plain = 2
 frameLength Listed = 4
 
+-- a line's bytes in the frame
 abbrev pub framed : Frame → Line → List ℕ → List ℕ
 framed f l bs = opening f l ++ (bs ++ closing f)
 
@@ -40,6 +41,7 @@ framed f l bs = opening f l ++ (bs ++ closing f)
 unfoldable pub lineText : Frame → (ℕ → List ℕ) → Renderer → Row → ℕ → List Cell → Line → List ℕ
 lineText f glyphs q r mark cells l = cond (isPresent q r l) (framed f l (cellsText glyphs q r mark cells l)) []
 
+-- the bytes of the lines of a shape
 abbrev pub linesText : Frame → (ℕ → List ℕ) → Renderer → Row → ℕ → List Cell → List ℕ
 linesText f glyphs q r mark cells = joins (lineText f glyphs q r mark cells) allLines
 
@@ -47,6 +49,7 @@ linesText f glyphs q r mark cells = joins (lineText f glyphs q r mark cells) all
 abbrev pub framedLine : Frame → Renderer → DashStyle → ℕ → PrefixLine → List ℕ
 framedLine f q d mark l = framed f (l .kind) (joinsFrom (bytesOf (glyphsOf q) q d mark) 0 (l .choices))
 
+-- the same of a shape that is given whole
 unfoldable pub framedBytes : Frame → Renderer → RowShape → ℕ → List ℕ
 framedBytes f q g mark = joins (framedLine f q (g .style .«dash_style») mark) (lines q g)
 

@@ -18,6 +18,7 @@ dollar = 0x24
 abbrev pub listingLine : DashStyle → ℕ → PrefixLine → List ℕ
 listingLine d mark l = letter (l .kind) ∷ (colon ∷ (joinsFrom (bytesOf (glyphsOf Ascii) Ascii d mark) 0 (l .choices) ++ (dollar ∷ newline ∷ [])))
 
+-- the listing's bytes of a shape
 unfoldable pub listingBytes : RowShape → ℕ → List ℕ
 listingBytes g mark = joins (listingLine (g .style .«dash_style») mark) (lines Ascii g)
 

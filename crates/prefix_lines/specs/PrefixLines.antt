@@ -32,6 +32,7 @@ letter PostAncestry = 0x5a
 abbrev pub lineBytes : Renderer → DashStyle → ℕ → PrefixLine → List ℕ
 lineBytes q d mark l = letter (l .kind) ∷ (joinsFrom (bytesOf (glyphsOf q) q d mark) 0 (l .choices) ++ (newline ∷ []))
 
+-- the bytes of a shape's prefix lines
 unfoldable pub linesBytes : Renderer → RowShape → ℕ → List ℕ
 linesBytes q g mark = joins (lineBytes q (g .style .«dash_style») mark) (lines q g)
 
@@ -43,6 +44,7 @@ checksFor g mark bs out =
     ∷ (8 when ltb (length out) (length bs))
     ∷ []
 
+-- the renderer call's rows of 01's table, in their order
 abbrev pub checks : RowShape → Renderer → ℕ → List ℕ → List Check
 checks g q mark out = checksFor g mark (linesBytes q g mark) out
 
@@ -52,6 +54,7 @@ pub record Answer : Type 0 where
   pub length : ℕ
   pub output : List ℕ
 
+-- what the renderer call gave, in the definition's words
 abbrev pub answerOf : Written → List ℕ → Answer
 answerOf w out = record { refusal = w .refusal; length = w .length; output = out }
 

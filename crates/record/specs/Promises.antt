@@ -24,6 +24,7 @@ recordReplyOf r = record { outcome = r .outcome; view = recordViewOf (r .«recor
 
 -- ---- what stands behind the last entry and behind the message
 
+-- an entry of the array
 abbrev pub entry : Ancestor → Entry
 entry a = record { ancestor = a }
 
@@ -35,6 +36,7 @@ entriesWith l = record { list = map entry l ++ replicate (entryLimit - length l)
 abbrev pub padded : List ℕ → List ℕ
 padded m = m ++ replicate (messageRoom - length m) 0
 
+-- the record's struct, decided whole
 abbrev pub recordWith : RecordView → Record
 recordWith v =
     record {

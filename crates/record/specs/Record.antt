@@ -28,6 +28,7 @@ markOf s = getD s 4 0
 abbrev pub parentCount : List ℕ → ℕ
 parentCount s = getD s 5 0
 
+-- "parent count above 8" (01, the table's row 10)
 abbrev pub parentLimit : ℕ
 parentLimit = 8
 
@@ -40,6 +41,7 @@ pub record Written : Type 0 where
   pub kind : ℕ
   pub id : ℕ
 
+-- the k-th entry as it is written
 abbrev pub writtenAt : List ℕ → ℕ → Written
 writtenAt s k = record { kind = getD s (entryPlace k) 0; id = idAt s (entryPlace k + 1) }
 
@@ -48,6 +50,7 @@ abbrev pub writtenFrom : List ℕ → ℕ → ℕ → List Written
 writtenFrom s k zero = []
 writtenFrom s k (suc n) = writtenAt s k ∷ writtenFrom s (suc k) n
 
+-- the entries that the parent count counts: "a used entry" (01, the table's row 11)
 abbrev pub used : List ℕ → List Written
 used s = writtenFrom s 0 (parentCount s)
 
@@ -59,6 +62,7 @@ entryOf w = cond (eqb (w .kind) 0) Anonymous (cond (eqb (w .kind) 1) (Indirect (
 abbrev pub kindLimit : ℕ
 kindLimit = 2
 
+-- whether a kind is above n
 abbrev pub anyAbove : ℕ → List Written → Bool
 anyAbove n [] = false
 anyAbove n (w ∷ ws) = ltb n (w .kind) || anyAbove n ws
@@ -67,6 +71,7 @@ anyAbove n (w ∷ ws) = ltb n (w .kind) || anyAbove n ws
 abbrev pub messageRoom : ℕ
 messageRoom = 82
 
+-- those bytes
 abbrev pub roomOf : List ℕ → List ℕ
 roomOf s = take messageRoom (drop 46 s)
 
@@ -84,9 +89,11 @@ pub record RecordView : Type 0 where
   pub entries : List Entry
   pub message : List ℕ
 
+-- the record that the bytes hold
 abbrev pub recordOf : List ℕ → RecordView
 recordOf s = record { id = idAt s 0; mark = markOf s; entries = map entryOf (used s); message = upToZero (roomOf s) }
 
+-- "id 0, mark 0, no entries and no message"
 abbrev pub noRecord : RecordView
 noRecord = record { id = 0; mark = 0; entries = []; message = [] }
 
@@ -121,6 +128,7 @@ pub record RecordReply : Type 0 where
   pub outcome : Outcome
   pub view : RecordView
 
+-- what the call gives for an outcome
 abbrev pub recordAnswer : Outcome → List ℕ → RecordReply
 recordAnswer o left = record { outcome = o; view = outcomeRecord o left }
 

@@ -1,7 +1,7 @@
 -- Parent entries (01, point 2), and the list that an array of them stands for.
 use Prim.Native.Nat.{ℕ, suc}
 use mathlib.Core.Bool.{Bool, true, false, cond, _||_}
-use mathlib.Core.List.{List, map}
+use mathlib.Core.List.{List, [], _∷_, map}
 use mathlib.Core.Option.{Option, none, some}
 use lib.Dec.{ltb, leb}
 use lib.ListN.{take, set, replicate}
@@ -26,10 +26,16 @@ isDirect (Indirect n) = false
 isDirect (Direct n) = true
 isDirect Anonymous = true
 
+-- "Anonymous" (01, point 2)
 abbrev pub isAnonymous : Ancestor → Bool
 isAnonymous (Indirect n) = false
 isAnonymous (Direct n) = false
 isAnonymous Anonymous = true
+
+-- whether one of a list passes a test, as in "no Anonymous entry"
+abbrev pub anyOf {ℓ} : {A : Type ℓ} → (A → Bool) → List A → Bool
+anyOf t [] = false
+anyOf t (a ∷ l) = t a || anyOf t l
 
 -- the entries that are given: the first ones of the array
 abbrev pub listed : Entries → List Ancestor
@@ -39,6 +45,7 @@ listed es = map (λ (e : Entry). e .ancestor) (take (es .count) (es .list))
 abbrev pub tooMany : Entries → Bool
 tooMany es = es .«too_many» || ltb entryLimit (es .count)
 
+-- the array without entries
 abbrev pub noEntries : Entries
 noEntries = record { list = replicate entryLimit (record { ancestor = Anonymous }); count = 0; «too_many» = false }
 

@@ -41,6 +41,7 @@ nodeToPad false node.Node = pad.Parent
 abbrev pub preNodeLine : RowShape → List PadLine
 preNodeLine g = map (λ (c : Cell). nodeToPad (g .«is_head») (c .node)) (cellsOf g)
 
+-- `post_node_line` in types.rs
 abbrev pub postNodeLine : RowShape → List PadLine
 postNodeLine g = map (λ (c : Cell). nodeToPad (g .«is_root») (c .node)) (cellsOf g)
 
@@ -51,8 +52,10 @@ footPad Persistent pad.Ancestor = pad.Ancestor
 footPad Once pad.Ancestor = pad.Parent
 footPad d pad.Parent = pad.Parent
 
+-- the ancestry line (types.rs)
 abbrev pub ancestryLine : RowShape → List PadLine
 ancestryLine g = map (λ (c : Cell). c .ancestry) (cellsOf g)
 
+-- the line below the ancestry line, the foot line (`ancestry_lines` in row_shape_to_prefix_lines.rs)
 abbrev pub postAncestryLine : RowShape → List PadLine
 postAncestryLine g = map (λ (c : Cell). footPad (g .style .«dash_style») (c .ancestry)) (cellsOf g)

@@ -1,6 +1,6 @@
 -- A link cell (01, point 2): "a set of thirteen marks". "Marks are compared by name; bit places are free."
 use Prim.Native.Nat.{ℕ, _+_}
-use mathlib.Core.Bool.{Bool, cond, not}
+use mathlib.Core.Bool.{Bool, false, cond, not}
 use lib.Dec.{eqb}
 use lib.Bits.{bitAnd, bitOr}
 use Rattle.render.specs.declared.render.LinkLine.{LinkLine}
@@ -14,12 +14,36 @@ meets a b = not (eqb (bitAnd (a .bits) (b .bits)) 0)
 abbrev pub joined : LinkLine → LinkLine → LinkLine
 joined a b = record { bits = bitOr (a .bits) (b .bits) }
 
+-- the set without marks (`LinkLine::empty`)
 abbrev pub noMarks : LinkLine
 noMarks = record { bits = 0 }
 
 -- a mark's bit where the cell has the mark
 abbrev pub only : Bool → ℕ → ℕ
 only b n = cond b n 0
+
+-- strokes that pass a cell, solid and dashed, and no other mark
+abbrev pub strokes : Bool → Bool → Marks
+strokes solid dashed =
+    record {
+      «horiz_parent» = solid;
+      «horiz_ancestor» = dashed;
+      «vert_parent» = false;
+      «vert_ancestor» = false;
+      «left_fork_parent» = false;
+      «left_fork_ancestor» = false;
+      «right_fork_parent» = false;
+      «right_fork_ancestor» = false;
+      «left_merge_parent» = false;
+      «left_merge_ancestor» = false;
+      «right_merge_parent» = false;
+      «right_merge_ancestor» = false;
+      child = false;
+    }
+
+-- no mark, by name
+abbrev pub unmarked : Marks
+unmarked = strokes false false
 
 -- the set of the marks that are named, each in the bit place of its constant
 abbrev pub linkOf : Marks → LinkLine

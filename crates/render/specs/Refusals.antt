@@ -9,6 +9,7 @@ pub record Check : Type 0 where
   pub holds : Bool
 
 infix 20 _when_
+-- number n where b holds
 abbrev pub _when_ : ℕ → Bool → Check
 n when b = record { number = n; holds = b }
 

@@ -2,7 +2,7 @@
 ghost use mathlib.Core.Path.{_≡_};
 ghost use Prim.Native.Nat.{_≤_};
 ghost use Rattle.render.specs.Entries.{pushed, noEntries, tooMany, isDirect, isAnonymous};
-ghost use Rattle.render.specs.Link.{meets, joined, only, linkOf};
+ghost use Rattle.render.specs.Link.{meets, joined, only, unmarked, linkOf};
 
 // The most entries of a row.
 pub const ENTRY_LIMIT: usize = 32;
@@ -143,6 +143,27 @@ fn bit(mark: LinkLine, has: bool) -> u16
 }
 
 impl Marks {
+    // No mark.
+    pub fn none() -> Marks
+        ensures { λ r. ⌜ r ≡ unmarked ⌝ }
+    {
+        Marks {
+            horiz_parent: false,
+            horiz_ancestor: false,
+            vert_parent: false,
+            vert_ancestor: false,
+            left_fork_parent: false,
+            left_fork_ancestor: false,
+            right_fork_parent: false,
+            right_fork_ancestor: false,
+            left_merge_parent: false,
+            left_merge_ancestor: false,
+            right_merge_parent: false,
+            right_merge_ancestor: false,
+            child: false,
+        }
+    }
+
     // The set of these marks.
     pub fn link_line(self) -> LinkLine
         ensures { λ r. ⌜ r ≡ linkOf self ⌝ }

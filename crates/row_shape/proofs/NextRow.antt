@@ -13,7 +13,7 @@ use Rattle.column.specs.declared.Column.the-variants.{Empty}
 use Rattle.column.specs.declared.Found.{Found}
 use Rattle.column.specs.declared.Slot.{Slot}
 use Rattle.column.specs.declared.Found.the-variants.{At, Nothing}
-use Rattle.column.specs.Columns.{columnLimit, isParent, find, orElse, merge, at, put, reset, live, SpareEmpty}
+use Rattle.column.specs.Columns.{columnLimit, isParent, find, orElse, merge, at, put, live}
 use Rattle.column.proofs.Front.{length-front}
 use Rattle.column.proofs.Laws.{columnOf as slotColumn}
 use Rattle.column.proofs.Positions.{at-put-same, length-put}
@@ -22,11 +22,10 @@ use Rattle.render.specs.declared.render.Entry.{Entry as Entry₁}
 use Rattle.render.specs.declared.render.Entries.{Entries}
 use Rattle.render.specs.declared.types.Cell.{Cell}
 use Rattle.render.specs.declared.types.RowShape.{RowShape}
-use Rattle.render.specs.Entries.{entryLimit, isAnonymous, listed, tooMany}
+use Rattle.render.specs.Entries.{entryLimit, isAnonymous, anyOf, listed, tooMany}
 use Rattle.render.specs.Lines.{blankCell}
 use Rattle.shaper.specs.declared.Shaper.{Shaper}
 use Rattle.row_shape.specs.declared.RowAnswer.{RowAnswer}
-use Rattle.cells.specs.declared.RowLines.{RowLines}
 use Rattle.links.specs.declared.Met.{Met}
 use Rattle.links.specs.declared.Swap.{Swap}
 use Rattle.links.specs.declared.AncestorColumnBounds.{AncestorColumnBounds}
@@ -35,16 +34,17 @@ use Rattle.shaper.specs.Shaper.{View, viewOf}
 use Rattle.shaper.specs.NodeColumn.{unallocated, nodeColumn, head}
 use Rattle.shaper.specs.Inner.{fitting}
 use Rattle.shaper.proofs.NodeLaws.{node-in, fitting-at, fitting-none}
-use Rattle.placing.specs.Placing.{walk, Placed, placeAt, place, dashed, drawsAt}
+use Rattle.placing.specs.Placing.{walk, Placed, placeAt, place, drawsAt}
 use Rattle.links.specs.Links.{boundsOf, linked}
 use Rattle.links.specs.Inner.{ParentColumn, mets}
 use Rattle.placing.specs.Inner.{Columns, columnsOf, metAt, Opens, Went, Walks, Settled, settled}
 use Rattle.cells.specs.Cells.{cellsFrom, cellOf}
-use Rattle.row_shape.specs.Row.{anyOf, separator, shapeAt, noShape, RowReply, rowChecks, rowAfter, rowAnswer, row}
+use Rattle.row_shape.specs.Row.{separator, shapeAt, noShape, RowReply, rowChecks, rowAfter, rowAnswer, row}
 use Rattle.row_shape.specs.Promises.{Rows}
-use Rattle.cells.specs.Inner.{linesOf}
+use Rattle.row_shape.specs.Inner.{Accepts}
+use Rattle.cells.specs.Inner.{Keeps, Draws, RowLines, linesOf}
 use Rattle.placing.proofs.PlacingLaws.{walk-more}
-use Rattle.placing.proofs.SwapLaws.{Settles, settles}
+use Rattle.placing.proofs.SwapLaws.{Settles, settles, settles-kept}
 use Rattle.cells.proofs.CellLaws.{cells-same}
 
 -- ---- the row call from the node's column on
@@ -226,41 +226,47 @@ module _ (s : Shaper) (n : ℕ) (es : Entries) (few : tooMany es ≡ false) (few
       (st .draws) b-is (st .columns) (swap-same (r .swap) _ (st .up) (st .direct))
       ∙ ap (λ (k : ℕ). linesBy (drawsAt (pl .up) c (listed es) bs) (record { «given_up» = pl .up; «was_direct» = isParent (at bs (orElse (pl .up) c)) }) bs (pl .settled) k c) width-is
 
-  pub after-long : length (r .slots) ≡ columnLimit
-  after-long = st .long
+  -- a column in which nothing of the row ends is kept, so that the cells are those of the definition
+  keeps : (b : AncestorColumnBounds) → b .target ≡ c → (i : ℕ) → Keeps b (r .swap) i (metAt (r .parents) i) (at (columnsOf bare) i) (at (live (w .count) (r .slots)) i)
+  keeps b h i m o k = rw b-is (settles-kept (listed es) c bs (w .count) r st i m (rw h at o) k)
 
-  pub row-done : (term sep hd : Bool) (l : RowLines) (m : ℕ) (slots : List Slot) → term ≡ anyOf isAnonymous (listed es) → l ≡ linesOf r bare (w .count) c
-      → sep ≡ separator u existing c term → hd ≡ head existing (u .columns) → m ≤ columnLimit → live m slots ≡ reset (dashed (u .style .«dash_style») (live (w .count) (r .slots)))
-      → SpareEmpty m slots
-      → Rows s n es
+  lines-drawn : (b : AncestorColumnBounds) (need : Bool) (cells : List Cell) → b ≡ boundsOf (mets (w .count) (r .parents)) c → need ≡ linked b (r .swap)
+      → Draws b (r .swap) (r .parents) bare (r .slots) (w .count) cells
+      → record { «link_line» = need; cells = cells } ≡ linesOf r bare (w .count) c
+  lines-drawn b need cells be ne ce =
+      let h : b .target ≡ c = ap (λ (x : AncestorColumnBounds). x .target) be in
+      rw (ce (be ∙ ap (λ (k : ℕ). boundsOf (mets (w .count) (r .parents)) k) (sym h)) (keeps b h), ne, be)
+
+  pub row-done : (b : AncestorColumnBounds) (term sep hd need : Bool) (cells : List Cell) (x : RowAnswer) → term ≡ anyOf isAnonymous (listed es) → sep ≡ separator u existing c term → hd ≡ head existing (u .columns)
+      → b ≡ boundsOf (mets (w .count) (r .parents)) c → need ≡ linked b (r .swap)
+      → Draws b (r .swap) (r .parents) bare (r .slots) (w .count) cells
+      → Accepts (s .options)
       (record {
-        refusal = 0;
-        shape =
-            record {
-              node = n;
-              merge = ltb 1 (es .count);
-              «separator_line» = sep;
-              style = u .style;
-              «is_head» = hd;
-              «is_root» = eqb (es .count) 0;
-              «node_column» = c;
-              width = w .count;
-              «link_line» = l .«link_line»;
-              «term_line» = term;
-              cells = l .cells;
-            };
-        shaper = record { slots = slots; count = m; «previous_node_column» = At c; options = s .options };
+        node = n;
+        merge = ltb 1 (es .count);
+        «separator_line» = sep;
+        style = u .style;
+        «is_head» = hd;
+        «is_root» = eqb (es .count) 0;
+        «node_column» = c;
+        width = w .count;
+        «link_line» = need;
+        «term_line» = term;
+        cells = cells;
       })
-  row-done term sep hd l m slots te le se he fits en spare =
+      (live (w .count) (r .slots)) x
+      → Rows s n es x
+  row-done b term sep hd need cells x te se he be ne ce g =
       record {
         reply =
-            reply-same 0 _ (shapeAt u n (listed es) pl) _ (rowAfter u pl)
-            (shape-done u n (listed es) pl (ltb 1 (es .count)) sep hd (eqb (es .count) 0) term (w .count) l
-            (rw (length-listed es entries fewer)) (se ∙ rw (e, te)) (he ∙ rw e) (root-is es entries fewer) width-is te (lines-are l le))
-            (rw (en, st .columns))
-            ∙ sym (rw few (accept u n (listed es) c c-is (rw (← width-is) (p .fitting))));
-        refused = λ z. absurd (z refl);
-        fits = λ z. fits;
-        options = refl;
-        rest = λ x. spare;
+            rw (g .number, g .shape, g .columns, g .previous, g .same)
+            (reply-same 0 _ (shapeAt u n (listed es) pl) _ (rowAfter u pl)
+            (shape-done u n (listed es) pl (ltb 1 (es .count)) sep hd (eqb (es .count) 0) term (w .count) (record { «link_line» = need; cells = cells })
+            (rw (length-listed es entries fewer)) (se ∙ rw (e, te)) (he ∙ rw e) (root-is es entries fewer) width-is te (lines-are _ (lines-drawn b need cells be ne ce)))
+            (rw (st .columns))
+            ∙ sym (rw few (accept u n (listed es) c c-is (rw (← width-is) (p .fitting)))));
+        refused = λ z. absurd (z (g .number));
+        fits = λ z. g .fits;
+        options = g .same;
+        rest = λ y. g .spare;
       }

@@ -1,30 +1,16 @@
--- Laws of the small parts of a row: one for each return of the functions in src/lib.rt and src/cells.rt.
-use Prim.Native.Nat.{ℕ, suc, _+_, _≤_, _<_, min}
+-- Laws of the small parts of a row.
+use Prim.Native.Nat.{ℕ, _≤_, _<_, min}
 use mathlib.Core.Path.{_≡_, refl, _∙_, sym}
 use mathlib.Core.Bool.{Bool, true, false, not, _&&_}
-use mathlib.Core.List.{List, [], _∷_}
-use native.Mathlib.Numerals.{add-one}
 use native.Mathlib.Omega.{arith}
 use lib.Dec.{ltb, leb}
-use lib.ListN.{drop}
 use borrow.Author.Tests.{le-leb, lt-leb, ltb-true, ltb-false}
 use Rattle.column.specs.declared.Found.{Found}
 use Rattle.column.specs.declared.Found.the-variants.{At, Nothing}
 use Rattle.shaper.specs.declared.Shaper.{Shaper}
 use Rattle.shaper.specs.Shaper.{heightLimit, View, viewOf}
 use Rattle.links.specs.Links.{isAt}
-use Rattle.row_shape.specs.Row.{separator, anyOf}
-
--- ---- whether one of a list passes a test
-module _ {A : Type 0} (t : A → Bool) where
-  pub any-hit : (l r : List A) (a : A) → l ≡ a ∷ r → t a ≡ true → anyOf t l ≡ true
-  any-hit l r a e h = rw (e, h)
-
-  pub any-next : (l : List A) (i : ℕ) (a : A) → drop i l ≡ a ∷ drop (suc i) l → t a ≡ false → anyOf t (drop i l) ≡ anyOf t (drop (i + 1) l)
-  any-next l i a e h = rw (add-one i, e, h)
-
-  pub any-none : (l : List A) → l ≡ [] → anyOf t l ≡ false
-  any-none l e = rw e
+use Rattle.row_shape.specs.Row.{separator}
 
 pub separates-not : (v : View) (existing : Found) (i c : ℕ) (terms : Bool) → existing ≡ At i → false ≡ separator v existing c terms
 separates-not v existing i c terms e = rw e

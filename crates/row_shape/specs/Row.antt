@@ -1,6 +1,6 @@
 -- The row call: the shape that it gives, cell by cell, and the shaper after it.
 use Prim.Native.Nat.{ℕ, zero, suc, _-_}
-use mathlib.Core.Bool.{Bool, false, not, _&&_, _||_}
+use mathlib.Core.Bool.{Bool, false, not, _&&_}
 use mathlib.Core.List.{List, [], _∷_, _++_}
 use lib.Dec.{ltb, leb, eqb}
 use lib.ListN.{length, replicate}
@@ -9,7 +9,7 @@ use Rattle.column.specs.declared.Found.the-variants.{At}
 use Rattle.column.specs.Columns.{columnLimit, isParent, find, orElse, at, reset}
 use Rattle.render.specs.declared.render.Ancestor.{Ancestor as Entry}
 use Rattle.render.specs.declared.types.RowShape.{RowShape}
-use Rattle.render.specs.Entries.{isAnonymous}
+use Rattle.render.specs.Entries.{isAnonymous, anyOf}
 use Rattle.render.specs.Lines.{blankCell}
 use Rattle.links.specs.declared.Met.{Met}
 use Rattle.links.specs.declared.AncestorColumnBounds.{AncestorColumnBounds}
@@ -20,11 +20,6 @@ use Rattle.shaper.specs.NodeColumn.{head}
 use Rattle.cells.specs.Cells.{cellOf, cellsFrom}
 use Rattle.placing.specs.Placing.{dashed, Placed, place, drawsAt}
 use Rattle.links.specs.Links.{boundsOf, isAt, linked}
-
--- whether one of a list passes a test, as in "no Anonymous entry"
-abbrev pub anyOf {ℓ} : {A : Type ℓ} → (A → Bool) → List A → Bool
-anyOf t [] = false
-anyOf t (a ∷ l) = t a || anyOf t l
 
 -- "The separator flag: no column held before, height at most 1, no staggering, same column as the previous node, no Anonymous entry."
 abbrev pub separator : View → Found → ℕ → Bool → Bool

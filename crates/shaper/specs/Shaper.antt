@@ -47,6 +47,7 @@ pub record Reply : Type 0 where
   pub refusal : ℕ
   pub view : View
 
+-- what a call gave, in the definition's words
 abbrev pub replyOf : Answer → Reply
 replyOf r = record { refusal = r .refusal; view = viewOf (r .shaper) }
 
@@ -57,6 +58,7 @@ answer (suc n) old new = record { refusal = suc n; view = old }
 
 -- ---- the new shaper call
 
+-- "minimum row height above 16" (01, the table's row for new shaper)
 abbrev pub newChecks : Options → List Check
 newChecks o = (1 when ltb heightLimit (o .«min_row_height»)) ∷ []
 
@@ -73,11 +75,13 @@ refusedOptions =
       «graph_row_shape_style» = record { «dash_style» = Persistent; «link_line_placement» = Top };
     }
 
+-- the new shaper call
 abbrev pub newShaper : Options → Reply
 newShaper o = answer (refusal (newChecks o)) (viewOf (fresh refusedOptions)) (viewOf (fresh o))
 
 -- ---- the reserving call
 
+-- whether nothing was found
 abbrev pub isNothing : Found → Bool
 isNothing (At i) = false
 isNothing Nothing = true
@@ -91,12 +95,15 @@ abbrev pub reservedIn : Found → ℕ → List Column → List Column
 reservedIn (At i) n cs = cs
 reservedIn Nothing n cs = put cs (vacant cs) (Reserved n)
 
+-- the columns after a reservation of n
 abbrev pub reserved : ℕ → List Column → List Column
 reserved n cs = reservedIn (find n cs) n cs
 
+-- a view with other columns
 abbrev pub withColumns : View → List Column → View
 withColumns v cs = record { columns = cs; previous = v .previous; height = v .height; stagger = v .stagger; style = v .style }
 
+-- the reserving call
 unfoldable pub reserve : View → ℕ → Reply
 reserve v n = answer (refusal (reserveChecks n (v .columns))) v (withColumns v (reserved n (v .columns)))
 

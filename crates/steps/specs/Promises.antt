@@ -13,6 +13,7 @@ use Rattle.steps.specs.declared.Progress.{Progress}
 use Rattle.steps.specs.declared.Step.{Step}
 use Rattle.steps.specs.Steps.{refusedIn, ProgressView, StepReply, stopped}
 
+-- what a program keeps, in the definition's words
 abbrev pub progressViewOf : Progress → ProgressView
 progressViewOf p = record { view = viewOf (p .shaper); text = textViewOf (p .state); number = p .number }
 

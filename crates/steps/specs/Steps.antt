@@ -34,6 +34,7 @@ places = 20
 abbrev pub refusedWord : List ℕ
 refusedWord = 0x72 ∷ 0x65 ∷ 0x66 ∷ 0x75 ∷ 0x73 ∷ 0x65 ∷ 0x64 ∷ 0x20 ∷ []
 
+-- ` at record `
 abbrev pub recordWords : List ℕ
 recordWords = 0x20 ∷ 0x61 ∷ 0x74 ∷ 0x20 ∷ 0x72 ∷ 0x65 ∷ 0x63 ∷ 0x6f ∷ 0x72 ∷ 0x64 ∷ 0x20 ∷ []
 
@@ -45,6 +46,7 @@ refusedLine n k = refusedWord ++ (decimalIn places n ++ (recordWords ++ (decimal
 abbrev pub lineRoom : ℕ
 lineRoom = 64
 
+-- that line, where there is room for it
 abbrev pub refusedIn : List ℕ → ℕ → ℕ → List ℕ
 refusedIn out n k = cond (ltb (length out) lineRoom) [] (refusedLine n k)
 
@@ -65,6 +67,7 @@ programOptions =
       «graph_row_shape_style» = record { «dash_style» = Persistent; «link_line_placement» = Top };
     }
 
+-- what a program begins with
 abbrev pub beginning : ProgressView
 beginning = record { view = newShaper programOptions .view; text = record { queued = []; height = 0 }; number = 0 }
 
@@ -80,6 +83,7 @@ pub record StepReply : Type 0 where
   pub goesOn : Bool
   pub after : ProgressView
 
+-- the program stops with these bytes
 abbrev pub stopped : ProgressView → List ℕ → StepReply
 stopped p bytes = record { written = bytes; goesOn = false; after = p }
 
@@ -99,6 +103,7 @@ abbrev pub listingChecks : ℕ → RowReply → List ℕ → List ℕ → List C
 listingChecks mark r bytes out =
     (5 when (ltb mark 0x21 || ltb 0x7e mark)) ∷ (r .refusal when not (eqb (r .refusal) 0)) ∷ (8 when ltb (length out) (length bytes)) ∷ []
 
+-- a row of the listing program: its prefix lines
 abbrev pub listingRow : ProgressView → RecordView → List ℕ → StepReply
 listingRow p r out =
     let q : RowReply = row (p .view) (r .id) false (r .entries) in
@@ -115,5 +120,6 @@ onRecord draws p out (Refused n) r = stopped p (refusedIn out n (p .number))
 abbrev pub pageStep : ProgressView → List ℕ → List ℕ → StepReply
 pageStep p left out = onRecord pageRow p out (nextRecord left .outcome) (nextRecord left .view)
 
+-- a step of the listing program
 abbrev pub listingStep : ProgressView → List ℕ → List ℕ → StepReply
 listingStep p left out = onRecord listingRow p out (nextRecord left .outcome) (nextRecord left .view)

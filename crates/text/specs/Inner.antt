@@ -56,6 +56,7 @@ spread t (l ∷ ls) = replicate (t l) l ++ spread t ls
 abbrev pub lineTimes : Plan → Renderer → Row → Line → ℕ
 lineTimes p q r l = cond (isPresent q r l) (times (p .placement) (p .needed) l) 0
 
+-- 1 where it holds
 abbrev pub one : Bool → ℕ
 one b = cond b 1 0
 
@@ -64,6 +65,7 @@ abbrev pub fixedLines : Renderer → Row → ℕ
 fixedLines q r =
     1 + one (isPresent q r Link) + one (isPresent q r SecondLink) + one (isPresent q r Term) + one (isPresent q r SecondTerm) + one (isPresent q r Ancestry)
 
+-- the plan of a shape's lines, for so many message lines and a minimum height
 abbrev pub planOf : LinkLinePlacement → Renderer → Row → ℕ → ℕ → Plan
 planOf p q r count height = record { placement = p; fixed = fixedLines q r; needed = max count height - fixedLines q r }
 
@@ -92,6 +94,7 @@ stateAfter glyphs d p =
 
 -- ---- a row's text
 
+-- what the lines of a shape are drawn from
 abbrev pub drawnOf : RowShape → Renderer → ℕ → Drawn
 drawnOf g q mark = record { renderer = q; row = rowOf g; mark = mark; cells = g .cells; width = g .width }
 

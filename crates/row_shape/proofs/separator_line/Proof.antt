@@ -17,7 +17,7 @@ is-at-requires c κs = search needs
 
 returns-2 : tie.Need-returns-2
 returns-2 c = let a = c .before .before .before .before .before .args in
-    separates-done (a .shaper) (a .existing) (a .column) (a .need-term-line) _ (c .before .before .enum-told .given .1) (c .is-at .ensures)
+    separates-done (a .shaper) (a .place .existing) (a .column) (a .need-term-line) _ (c .before .before .enum-told .given .1) (c .is-at .ensures)
 
 pub separator-line-spec : {M : Type 1} → statement M
 separator-line-spec = tie.close (tie.spec enum-told enum-told-2 returns is-at-requires returns-2)

@@ -5,7 +5,8 @@ use native.Mathlib.Omega.{arith}
 use lib.ListN.{length, take, drop}
 use Rattle.column.specs.Columns.{columnLimit}
 use Rattle.render.specs.Lines.{blankCell}
-use Rattle.glyphs.specs.Row.{anyOf, isHorizontal}
+use Rattle.render.specs.Entries.{anyOf}
+use Rattle.glyphs.specs.Row.{isHorizontal}
 use Rattle.glyphs.proofs.PlaceLaws.{any-hit, any-next, any-none}
 use Rattle.glyphs.proofs.row.any_horizontal.Statement.{statement}
 use Rattle.glyphs.proofs.row.any_horizontal.Tie as tie

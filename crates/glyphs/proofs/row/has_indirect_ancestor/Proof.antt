@@ -5,7 +5,8 @@ use native.Mathlib.Omega.{arith}
 use lib.ListN.{length, take, drop}
 use Rattle.column.specs.Columns.{columnLimit}
 use Rattle.render.specs.Lines.{blankCell}
-use Rattle.glyphs.specs.Row.{anyOf, isIndirect}
+use Rattle.render.specs.Entries.{anyOf}
+use Rattle.glyphs.specs.Row.{isIndirect}
 use Rattle.glyphs.proofs.PlaceLaws.{any-hit, any-next, any-none}
 use Rattle.glyphs.proofs.row.has_indirect_ancestor.Statement.{statement}
 use Rattle.glyphs.proofs.row.has_indirect_ancestor.Tie as tie
