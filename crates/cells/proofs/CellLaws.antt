@@ -53,7 +53,7 @@ passed-done need b w i old new own all node link link-own pad h g e1 e2 e3 e4 e5
 
 -- ---- plain cells
 
--- what a truth function of two tests has to meet
+-- what holds of two truth values in each of the four cases
 two : (f : Bool → Bool → Type 0) → f true true → f true false → f false true → f false false → (x y : Bool) → f x y
 two f a b c d true true = a
 two f a b c d true false = b
@@ -197,7 +197,7 @@ module _ (need : Bool) (b : AncestorColumnBounds) (w : Swap) (parents bare : Lis
     abbrev ms : List Met
     ms = mets width (parentsIn parents)
 
-    -- the column after the swap, and the same before the entries where nothing of the row ends
+    -- the column after the swap, by its word
     settled-at : (i : ℕ) → i < n → at (live width (slotsIn codes)) i ≡ columnIn (getD codes i 0)
     settled-at i h = word-at width codes i (omega arith)
 
