@@ -12,8 +12,8 @@ const GROWTH: [usize; 3] = [100, 1000, 10_000];
 /// The cases whose growth is shown.
 const GROWN: [&str; 2] = ["row", "text, curved, short"];
 
-/// The bytes by which the stack of a round lies deeper than that of the round before, and how many rounds go down before one starts anew:
-/// together a page of memory.
+/// The bytes by which the stack of a round lies deeper, at least, than that of the round before, and how many rounds go down before one
+/// starts anew.
 const FRAME: usize = 96;
 const FRAMES: usize = 32;
 
@@ -65,7 +65,7 @@ impl Side {
     }
 }
 
-/// Runs something with the stack so many frames deeper. Where the stack lies in its page decides which copies get in each other's way.
+/// Runs something with the stack so many frames deeper: the time of a row depends on where the stack lies in its page.
 #[inline(never)]
 fn deeper(frames: usize, run: &mut dyn FnMut()) {
     let frame = black_box([0u8; FRAME]);
