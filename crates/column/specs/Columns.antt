@@ -49,7 +49,7 @@ isEmpty (Reserved n) = false
 isEmpty (Ancestor n) = false
 isEmpty (Parent n) = false
 
--- whether a column is of one of the kinds that hold an id
+-- whether a column is Reserved
 abbrev pub isReserved : Column → Bool
 isReserved Empty = false
 isReserved Blocked = false
@@ -77,7 +77,7 @@ isParent (Parent n) = true
 abbrev pub merge : Column → Column → Column
 merge old new = cond (ltb (rank old) (rank new)) new old
 
--- the first column that passes a test, counted from 0
+-- one column further on
 abbrev pub next : Found → Found
 next (At i) = At (suc i)
 next Nothing = Nothing

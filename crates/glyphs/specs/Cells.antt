@@ -61,7 +61,7 @@ pub record PrefixLine : Type 0 where
   pub kind : Line
   pub choices : List Choice
 
--- a line of a shape, and the lines of a shape
+-- a line of a shape
 abbrev pub lineOf : Renderer → RowShape → Line → PrefixLine
 lineOf q g l = record { kind = l; choices = map (choiceOf q (rowOf g) l) (places 0 (cellsOf g)) }
 

@@ -61,11 +61,11 @@ entry table n = cond (ltb n 15) (placed table n) []
 abbrev pub Draws : List ℕ → Renderer → Type 0
 Draws table q = (n : ℕ) → entry table n ≡ glyphsOf q n
 
--- the index of the cell that is read as the next one, and its link, empty past the end
+-- the index of the cell that is read as the next one
 abbrev pub nextIndex : ℕ → ℕ
 nextIndex i = min (i + 1) (columnLimit - 1)
 
--- the next cell's link, where there is a next cell
+-- the next cell's link, empty past the end
 abbrev pub nextLink : Cell → ℕ → ℕ → LinkLine
 nextLink after i width = cond (ltb (i + 1) width) (after .link) noMarks
 
@@ -73,6 +73,6 @@ nextLink after i width = cond (ltb (i + 1) width) (after .link) noMarks
 unfoldable pub cellBytes : (ℕ → List ℕ) → Renderer → Row → ℕ → Line → Place → List ℕ
 cellBytes glyphs q r mark l p = bytesOf glyphs q (r .«dash_style») mark (p .index) (choiceOf q r l p)
 
--- the bytes of the cells from index i on
+-- the bytes of all cells of a line
 abbrev pub cellsText : (ℕ → List ℕ) → Renderer → Row → ℕ → List Cell → Line → List ℕ
 cellsText glyphs q r mark cells l = joins (cellBytes glyphs q r mark l) (places 0 cells)

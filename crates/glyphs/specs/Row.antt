@@ -14,7 +14,7 @@ use Rattle.glyphs.specs.declared.types.Place.{Place}
 use Rattle.glyphs.specs.declared.types.Row.{Row}
 use Rattle.glyphs.specs.Marks.{horizontal}
 
--- the tests of `any_horizontal` and `has_indirect_ancestor`
+-- the test of `any_horizontal`
 abbrev pub isHorizontal : Cell → Bool
 isHorizontal c = meets (c .link) horizontal
 

@@ -48,22 +48,22 @@ abbrev pub isRefusal : ℕ → Bool
 isRefusal zero = false
 isRefusal (suc n) = true
 
--- whether a reserving or row call is refused, and the shaper after it
+-- whether a reserving or row call is refused
 abbrev pub refusesCall : View → Call → Bool
 refusesCall v (Reserve n) = isRefusal (reserve v n .refusal)
 refusesCall v (Row n es) = isRefusal (rowOf v n es .refusal)
 
--- the view after a call
+-- the view after a reserving or row call
 abbrev pub afterCall : View → Call → View
 afterCall v (Reserve n) = reserve v n .view
 afterCall v (Row n es) = rowOf v n es .view
 
--- the same of every call of the list, a text call's as the definition of that call gives them
+-- whether any call of the list is refused, a text call by the definition of that call
 abbrev pub refuses : View → Item → Bool
 refuses v (Plain k) = refusesCall v k
 refuses v (Text a n es) = isRefusal (textOn v a n es .refusal)
 
--- the view after an item
+-- the view after any call of the list, after a text call by the definition of that call
 abbrev pub after : View → Item → View
 after v (Plain k) = afterCall v k
 after v (Text a n es) = textOn v a n es .view

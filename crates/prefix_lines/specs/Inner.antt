@@ -41,15 +41,15 @@ framed f l bs = opening f l ++ (bs ++ closing f)
 unfoldable pub lineText : Frame → (ℕ → List ℕ) → Renderer → Row → ℕ → List Cell → Line → List ℕ
 lineText f glyphs q r mark cells l = cond (isPresent q r l) (framed f l (cellsText glyphs q r mark cells l)) []
 
--- the bytes of the lines of a shape
+-- all lines that a row has
 abbrev pub linesText : Frame → (ℕ → List ℕ) → Renderer → Row → ℕ → List Cell → List ℕ
 linesText f glyphs q r mark cells = joins (lineText f glyphs q r mark cells) allLines
 
--- the same from the choices: `linesBytes` where the frame is plain, `listingBytes` in a listing
+-- a line from its choices: `linesBytes` where the frame is plain, `listingBytes` in a listing
 abbrev pub framedLine : Frame → Renderer → DashStyle → ℕ → PrefixLine → List ℕ
 framedLine f q d mark l = framed f (l .kind) (joinsFrom (bytesOf (glyphsOf q) q d mark) 0 (l .choices))
 
--- the same of a shape that is given whole
+-- all lines of a shape, from the choices
 unfoldable pub framedBytes : Frame → Renderer → RowShape → ℕ → List ℕ
 framedBytes f q g mark = joins (framedLine f q (g .style .«dash_style») mark) (lines q g)
 

@@ -24,7 +24,7 @@ idAt s i = getD s i 0 + 0x100 * getD s (i + 1) 0 + 0x10000 * getD s (i + 2) 0 + 
 abbrev pub markOf : List ℕ → ℕ
 markOf s = getD s 4 0
 
--- "parent count (5)"; "parent count above 8" (01, the table's row 10)
+-- "parent count (5)"
 abbrev pub parentCount : List ℕ → ℕ
 parentCount s = getD s 5 0
 

@@ -37,7 +37,7 @@ nodeToPad b node.Parent = pad.Parent
 nodeToPad true node.Node = pad.Blank
 nodeToPad false node.Node = pad.Parent
 
--- `pre_node_line` and `post_node_line` in types.rs
+-- `pre_node_line` in types.rs
 abbrev pub preNodeLine : RowShape → List PadLine
 preNodeLine g = map (λ (c : Cell). nodeToPad (g .«is_head») (c .node)) (cellsOf g)
 

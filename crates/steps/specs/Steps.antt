@@ -30,7 +30,7 @@ decimalIn (suc k) n = cond (ltb n 10) ((0x30 + n) ∷ []) (decimalIn k (n / 10) 
 abbrev pub places : ℕ
 places = 20
 
--- `refused ` and ` at record `
+-- `refused `
 abbrev pub refusedWord : List ℕ
 refusedWord = 0x72 ∷ 0x65 ∷ 0x66 ∷ 0x75 ∷ 0x73 ∷ 0x65 ∷ 0x64 ∷ 0x20 ∷ []
 
@@ -116,10 +116,10 @@ onRecord draws p out Ready r = draws p r out
 onRecord draws p out Ended r = stopped p []
 onRecord draws p out (Refused n) r = stopped p (refusedIn out n (p .number))
 
--- a step of the page program, and of the listing program, on the bytes that are left
+-- a step of the page program, on the bytes that are left
 abbrev pub pageStep : ProgressView → List ℕ → List ℕ → StepReply
 pageStep p left out = onRecord pageRow p out (nextRecord left .outcome) (nextRecord left .view)
 
--- a step of the listing program
+-- a step of the listing program, on the bytes that are left
 abbrev pub listingStep : ProgressView → List ℕ → List ℕ → StepReply
 listingStep p left out = onRecord listingRow p out (nextRecord left .outcome) (nextRecord left .view)
