@@ -4,13 +4,13 @@ use mathlib.Core.Bool.{Bool, true, false, cond, _||_}
 use mathlib.Core.List.{List, [], _∷_, map}
 use mathlib.Core.Option.{Option, none, some}
 use lib.Dec.{ltb, leb}
-use lib.ListN.{take, set, replicate}
+use lib.ListN.{length, take, set, replicate}
 use Rattle.render.specs.declared.render.Ancestor.{Ancestor}
 use Rattle.render.specs.declared.render.Ancestor.the-variants.{Ancestor as Indirect, Parent as Direct, Anonymous}
 use Rattle.render.specs.declared.render.Entry.{Entry}
 use Rattle.render.specs.declared.render.Entries.{Entries}
 
--- "more than 32 entries" (01, the table's row for row, width, text)
+-- 32 entries (01, the table's row for row, width, text)
 abbrev pub entryLimit : ℕ
 entryLimit = 32
 
@@ -37,13 +37,21 @@ abbrev pub anyOf {ℓ} : {A : Type ℓ} → (A → Bool) → List A → Bool
 anyOf t [] = false
 anyOf t (a ∷ l) = t a || anyOf t l
 
--- the entries that are given: the first ones of the array
-abbrev pub listed : Entries → List Ancestor
-listed es = map (λ (e : Entry). e .ancestor) (take (es .count) (es .list))
+-- "more than 32 entries" (01, the table's row for row, width, text)
+abbrev pub tooMany : List Ancestor → Bool
+tooMany es = ltb entryLimit (length es)
 
--- whether there are more than 32, whatever the array holds
-abbrev pub tooMany : Entries → Bool
-tooMany es = es .«too_many» || ltb entryLimit (es .count)
+-- the entries that an array holds: its first ones
+abbrev pub given : Entries → List Ancestor
+given es = map (λ (e : Entry). e .ancestor) (take (es .count) (es .list))
+
+-- a list longer than the limit; which one makes no difference, since every call gives 3 for it
+abbrev pub overlong : List Ancestor
+overlong = replicate (suc entryLimit) Anonymous
+
+-- the list that entries by value stand for: with the flag, or with too great a count, one longer than the limit
+abbrev pub listed : Entries → List Ancestor
+listed es = cond (es .«too_many» || ltb entryLimit (es .count)) overlong (given es)
 
 -- the array without entries
 abbrev pub noEntries : Entries

@@ -9,7 +9,7 @@ use Rattle.column.specs.declared.Found.the-variants.{At}
 use Rattle.column.specs.Columns.{columnLimit, isParent, find, orElse, at, reset}
 use Rattle.render.specs.declared.render.Ancestor.{Ancestor as Entry}
 use Rattle.render.specs.declared.types.RowShape.{RowShape}
-use Rattle.render.specs.Entries.{isAnonymous, anyOf}
+use Rattle.render.specs.Entries.{isAnonymous, anyOf, tooMany}
 use Rattle.render.specs.Lines.{blankCell}
 use Rattle.links.specs.declared.Met.{Met}
 use Rattle.links.specs.declared.AncestorColumnBounds.{AncestorColumnBounds}
@@ -73,8 +73,8 @@ pub record RowReply : Type 0 where
   pub view : View
 
 -- the table's rows for row: 3 "more than 32 entries", 4 "node line would have more than 64 cells"
-abbrev pub rowChecks : Bool → Placed → List Check
-rowChecks many p = (3 when many) ∷ (4 when ltb columnLimit (length (p .walked))) ∷ []
+abbrev pub rowChecks : List Entry → Placed → List Check
+rowChecks es p = (3 when tooMany es) ∷ (4 when ltb columnLimit (length (p .walked))) ∷ []
 
 -- the shaper after a row: "`reset` ends every row."
 abbrev pub rowAfter : View → Placed → View
@@ -85,6 +85,6 @@ abbrev pub rowAnswer : ℕ → View → ℕ → List Entry → Placed → RowRep
 rowAnswer zero v n es p = record { refusal = 0; shape = shapeAt v n es p; view = rowAfter v p }
 rowAnswer (suc k) v n es p = record { refusal = suc k; shape = noShape; view = v }
 
--- the row call (`next_row_shape`), where many says that there are too many entries
-unfoldable pub row : View → ℕ → Bool → List Entry → RowReply
-row v n many es = rowAnswer (refusal (rowChecks many (place v n es))) v n es (place v n es)
+-- the row call (`next_row_shape`) on a list of any length
+unfoldable pub row : View → ℕ → List Entry → RowReply
+row v n es = rowAnswer (refusal (rowChecks es (place v n es))) v n es (place v n es)

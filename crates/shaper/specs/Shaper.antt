@@ -4,12 +4,13 @@ use mathlib.Core.Path.{_≡_}
 use mathlib.Core.Bool.{Bool, true, false, _&&_}
 use mathlib.Core.List.{List, [], _∷_}
 use lib.Dec.{ltb, leb}
-use lib.ListN.{length, replicate}
+use lib.ListN.{length, replicate, set}
 use Rattle.column.specs.declared.Column.{Column}
 use Rattle.column.specs.declared.Column.the-variants.{Reserved}
+use Rattle.column.specs.declared.Slot.{Slot}
 use Rattle.column.specs.declared.Found.{Found}
 use Rattle.column.specs.declared.Found.the-variants.{At, Nothing}
-use Rattle.column.specs.Columns.{columnLimit, isEmpty, first, find, vacant, put, live, emptySlot, SpareEmpty}
+use Rattle.column.specs.Columns.{columnLimit, isEmpty, first, find, vacant, put, live, emptySlot}
 use Rattle.render.specs.declared.types.DashStyle.the-variants.{Persistent}
 use Rattle.render.specs.declared.types.LinkLinePlacement.the-variants.{Top}
 use Rattle.render.specs.declared.types.Style.{Style}
@@ -115,12 +116,16 @@ pub record Fresh (o : Options) (r : Answer) : Type 0 where
   pub whole : r .shaper ≡ fresh (r .shaper .options)
   pub options : r .refusal ≡ 0 → r .shaper .options ≡ o
 
+-- the slot of an id that a reservation makes wait
+abbrev pub reservedSlot : ℕ → Slot
+reservedSlot n = record { column = Reserved n }
+
 -- the reserving call gives what the definition says; a refusal and an id already held leave the struct itself as it was;
--- else the raw count is at most 64; the options stay; slots past the count stay Empty if they were
+-- else the raw count is at most 64, and every slot but the one taken is as it was; the options stay
 pub record Reserves (s : Shaper) (n : ℕ) (r : Answer) : Type 0 where
   pub reply : replyOf r ≡ reserve (viewOf s) n
   pub refused : (r .refusal ≡ 0 → ⊥) → r .shaper ≡ s
   pub held : (i : ℕ) → find n (viewOf s .columns) ≡ At i → r .shaper ≡ s
   pub fits : find n (viewOf s .columns) ≡ Nothing → r .refusal ≡ 0 → r .shaper .count ≤ columnLimit
+  pub taken : find n (viewOf s .columns) ≡ Nothing → r .refusal ≡ 0 → r .shaper .slots ≡ set (s .slots) (vacant (viewOf s .columns)) (reservedSlot n)
   pub options : r .shaper .options ≡ s .options
-  pub rest : SpareEmpty (s .count) (s .slots) → SpareEmpty (r .shaper .count) (r .shaper .slots)

@@ -8,7 +8,7 @@ use Rattle.width.specs.declared.NewNode.{NewNode}
 use Rattle.shaper.specs.declared.Shaper.{Shaper}
 use Rattle.width.specs.declared.WidthAnswer.{WidthAnswer}
 use Rattle.render.specs.declared.render.Entries.{Entries}
-use Rattle.render.specs.Entries.{listed, tooMany}
+use Rattle.render.specs.Entries.{listed}
 use Rattle.shaper.specs.Shaper.{viewOf, isNothing}
 use Rattle.placing.specs.Placing.{heldBy}
 use Rattle.width.specs.Width.{width}
@@ -19,4 +19,4 @@ unheld cs e = isNothing (heldBy e cs)
 
 -- what the width call promises
 pub record Widths (s : Shaper) (n : NewNode) (es : Entries) (r : WidthAnswer) : Type 0 where
-  pub reply : r ≡ width (viewOf s) n (tooMany es) (listed es)
+  pub reply : r ≡ width (viewOf s) n (listed es)

@@ -13,6 +13,7 @@ use Rattle.render.specs.declared.render.Ancestor.{Ancestor as Entry}
 use Rattle.width.specs.declared.Room.{Room}
 use Rattle.width.specs.declared.NewNode.{NewNode}
 use Rattle.width.specs.declared.NewNode.the-variants.{Node, Absent}
+use Rattle.render.specs.Entries.{tooMany}
 use Rattle.render.specs.Refusals.{_when_, refusal}
 use Rattle.width.specs.declared.WidthAnswer.{WidthAnswer}
 use Rattle.shaper.specs.Shaper.{View, isNothing}
@@ -46,7 +47,7 @@ widthAnswer zero w = record { refusal = 0; width = w }
 widthAnswer (suc k) w = record { refusal = suc k; width = 0 }
 
 -- `width_with_options`: entries without a column need one each, except for the Empty ones and the node's own
-unfoldable pub width : View → NewNode → Bool → List Entry → WidthAnswer
-width v n many es =
+unfoldable pub width : View → NewNode → List Entry → WidthAnswer
+width v n es =
     let r : Room = forNode v n (record { wide = length (v .columns); free = count isEmpty (v .columns) }) in
-    widthAnswer (refusal ((3 when many) ∷ [])) (r .wide + (count (λ e. isNothing (heldBy e (v .columns))) es - r .free - 1))
+    widthAnswer (refusal ((3 when tooMany es) ∷ [])) (r .wide + (count (λ e. isNothing (heldBy e (v .columns))) es - r .free - 1))
