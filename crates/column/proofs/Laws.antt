@@ -16,7 +16,6 @@ use Rattle.column.specs.declared.Slot.{Slot}
 use Rattle.column.specs.declared.Found.{Found}
 use Rattle.column.specs.declared.Found.the-variants.{At, Nothing}
 use Rattle.column.specs.Columns.{columnLimit, isEmpty, next, first, findEmpty, vacant, unblock, keep, trim, at, put, live, emptySlot, SpareEmpty}
-use Rattle.column.specs.Codes.{columnIn, slotIn, slotsIn}
 use Rattle.column.proofs.Front.{length-front, front-getD, front-set, front-suc, front-clamp}
 
 abbrev pub columnOf : Slot → Column

@@ -5,7 +5,7 @@ use mathlib.Core.Bool.{Bool, true, false, cond}
 use mathlib.Core.List.{List, [], _∷_, map}
 use mathlib.Core.Option.{Option, none, some}
 use lib.Dec.{eqb, ltb}
-use lib.ListN.{length, getD, take, drop}
+use lib.ListN.{length, getD, take}
 use Rattle.column.specs.declared.Column.{Column}
 use Rattle.column.specs.declared.Column.the-variants.{Empty, Blocked, Reserved, Ancestor, Parent}
 use Rattle.column.specs.declared.Slot.{Slot}
@@ -152,6 +152,10 @@ live n slots = map (λ (s : Slot). s .column) (take n slots)
 -- a slot that holds an Empty column
 abbrev pub emptySlot : Slot
 emptySlot = record { column = Empty }
+
+-- a slot with another column
+abbrev pub withColumn : Slot → Column → Slot
+withColumn s c = record { column = c }
 
 -- the column of the slot at i, where n are live
 abbrev pub columnAt : Slot → ℕ → ℕ → Column

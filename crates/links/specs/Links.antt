@@ -3,26 +3,53 @@ use Prim.Native.Nat.{ℕ, suc, min, max}
 use mathlib.Core.Bool.{Bool, true, false, cond, not, _&&_, _||_}
 use mathlib.Core.List.{List, [], _∷_}
 use lib.Dec.{ltb, eqb}
+use Rattle.column.specs.declared.Column.{Column}
 use Rattle.column.specs.declared.Found.{Found}
 use Rattle.column.specs.declared.Found.the-variants.{At, Nothing}
+use Rattle.column.specs.Columns.{isAncestor, isParent}
 use Rattle.render.specs.declared.render.Ancestor.{Ancestor as Entry}
+use Rattle.render.specs.declared.render.Ancestor.the-variants.{Ancestor as Indirect, Parent as Direct, Anonymous}
 use Rattle.render.specs.declared.render.Marks.{Marks}
-use Rattle.render.specs.Entries.{isDirect}
-use Rattle.links.specs.declared.Met.{Met}
-use Rattle.links.specs.declared.Met.the-variants.{Nobody, By}
+use Rattle.links.specs.declared.Drawn.{Drawn}
+use Rattle.links.specs.declared.Drawn.the-variants as drawn
 use Rattle.links.specs.declared.AncestorColumnBounds.{AncestorColumnBounds}
 use Rattle.links.specs.declared.Swap.{Swap}
 
--- ---- of the entry that draws in a column, and of a column that was found
+-- ---- of the entry that draws in a column, by its kind, and of a column that was found
 
--- whether an entry draws, and it passes a test
-abbrev pub met : (Entry → Bool) → Met → Bool
-met t Nobody = false
-met t (By e) = t e
+-- the kind of an entry that draws: "Ancestor (indirect), Parent (direct), Anonymous" (01, point 2)
+abbrev pub drawnBy : Entry → Drawn
+drawnBy (Indirect n) = drawn.Indirect
+drawnBy (Direct n) = drawn.Direct
+drawnBy Anonymous = drawn.Anonymous
 
 -- whether an entry draws
-abbrev pub isMet : Met → Bool
-isMet = met (λ e. true)
+abbrev pub isDrawn : Drawn → Bool
+isDrawn drawn.Nobody = false
+isDrawn drawn.Indirect = true
+isDrawn drawn.Direct = true
+isDrawn drawn.Anonymous = true
+
+-- whether a direct one does; Anonymous "counts as direct" (01, point 2)
+abbrev pub isDirectlyDrawn : Drawn → Bool
+isDirectlyDrawn drawn.Nobody = false
+isDirectlyDrawn drawn.Indirect = false
+isDirectlyDrawn drawn.Direct = true
+isDirectlyDrawn drawn.Anonymous = true
+
+-- whether an indirect one does
+abbrev pub isIndirectlyDrawn : Drawn → Bool
+isIndirectlyDrawn drawn.Nobody = false
+isIndirectlyDrawn drawn.Indirect = true
+isIndirectlyDrawn drawn.Direct = false
+isIndirectlyDrawn drawn.Anonymous = false
+
+-- whether an Anonymous one does
+abbrev pub isAnonymouslyDrawn : Drawn → Bool
+isAnonymouslyDrawn drawn.Nobody = false
+isAnonymouslyDrawn drawn.Indirect = false
+isAnonymouslyDrawn drawn.Direct = false
+isAnonymouslyDrawn drawn.Anonymous = true
 
 -- whether a column was found, and it passes a test
 abbrev pub foundAs : (ℕ → Bool) → Found → Bool
@@ -36,43 +63,63 @@ isAt f i = foundAs (λ p. eqb p i) f
 -- ---- how far the entries' columns reach (`AncestorColumnBounds`)
 
 -- the leftmost cell that passes a test, counted from i, or c where that is farther left (`AncestorColumnBounds::new`)
-abbrev pub leftmost : (Met → Bool) → List Met → ℕ → ℕ → ℕ
+abbrev pub leftmost : (Drawn → Bool) → List Drawn → ℕ → ℕ → ℕ
 leftmost t [] i c = c
-leftmost t (m ∷ ms) i c = min (cond (t m) i c) (leftmost t ms (suc i) c)
+leftmost t (d ∷ ds) i c = min (cond (t d) i c) (leftmost t ds (suc i) c)
 
 -- the rightmost one (`AncestorColumnBounds::new`)
-abbrev pub rightmost : (Met → Bool) → List Met → ℕ → ℕ → ℕ
+abbrev pub rightmost : (Drawn → Bool) → List Drawn → ℕ → ℕ → ℕ
 rightmost t [] i c = c
-rightmost t (m ∷ ms) i c = max (cond (t m) i c) (rightmost t ms (suc i) c)
+rightmost t (d ∷ ds) i c = max (cond (t d) i c) (rightmost t ds (suc i) c)
 
 -- how far entries, and direct ones, reach to either side of the node's column c (`AncestorColumnBounds::new`)
-abbrev pub boundsOf : List Met → ℕ → AncestorColumnBounds
-boundsOf ms c =
+abbrev pub boundsOf : List Drawn → ℕ → AncestorColumnBounds
+boundsOf ds c =
     record {
       target = c;
-      «min_ancestor» = leftmost isMet ms 0 c;
-      «min_parent» = leftmost (met isDirect) ms 0 c;
-      «max_parent» = rightmost (met isDirect) ms 0 c;
-      «max_ancestor» = rightmost isMet ms 0 c;
+      «min_ancestor» = leftmost isDrawn ds 0 c;
+      «min_parent» = leftmost isDirectlyDrawn ds 0 c;
+      «max_parent» = rightmost isDirectlyDrawn ds 0 c;
+      «max_ancestor» = rightmost isDrawn ds 0 c;
     }
 
 -- ---- the marks
 
--- the marks of cell i: those that come from the node (`link_line_from_node` in `next_row_shape`, `horizontal_line`, `ancestor_to_link_line`), and a line that goes straight on, solid or dashed (`column_to_link_line`).
--- Of a swap: whether there was one, whether its strokes are solid, whether i is the column given up, whether i lies left of it. Of the entry that draws in the cell: whether there is one, and whether it is direct or indirect
-abbrev pub marksAt : AncestorColumnBounds → ℕ → Bool → Bool → Bool → Bool → Bool → Bool → Bool → Bool → Bool → Marks
-marksAt b i swapped solid gone ahead drawn direct indirect on on-dashed =
+-- whether cell i lies between the outermost direct entries (`horizontal_line`)
+abbrev pub inner : AncestorColumnBounds → ℕ → Bool
+inner b i = ltb (b .«min_parent») i && ltb i (b .«max_parent»)
+
+-- whether it lies between the outermost entries (`horizontal_line`)
+abbrev pub outer : AncestorColumnBounds → ℕ → Bool
+outer b i = ltb (b .«min_ancestor») i && ltb i (b .«max_ancestor»)
+
+-- whether it lies between the node and the column given up in a swap (`next_row_shape`)
+abbrev pub swapBar : AncestorColumnBounds → Swap → ℕ → Bool
+swapBar b w i = ltb (b .target) i && foundAs (ltb i) (w .«given_up»)
+
+-- whether a solid stroke passes cell i: the swap's strokes are solid if the column given up was Parent before the row
+abbrev pub passesSolid : AncestorColumnBounds → Swap → ℕ → Bool
+passesSolid b w i = inner b i || (swapBar b w i && w .«was_direct»)
+
+-- whether a dashed stroke passes it
+abbrev pub passesDashed : AncestorColumnBounds → Swap → ℕ → Bool
+passesDashed b w i = (not (inner b i) && outer b i) || (swapBar b w i && not (w .«was_direct»))
+
+-- the marks of cell i that come from the node, where d draws in it (`link_line_from_node` in `next_row_shape`, `ancestor_to_link_line`)
+abbrev pub fromNode : AncestorColumnBounds → Swap → ℕ → Drawn → Marks
+fromNode b w i d =
     let c : ℕ = b .target in
     let here : Bool = eqb i c in
-    let inner : Bool = ltb (b .«min_parent») i && ltb i (b .«max_parent») in
-    let outer : Bool = ltb (b .«min_ancestor») i && ltb i (b .«max_ancestor») in
-    let bar : Bool = ltb c i && ahead in
-    let bend : Bool = here && swapped in
+    let gone : Bool = isAt (w .«given_up») i in
+    let bend : Bool = here && foundAs (λ p. true) (w .«given_up») in
+    let solid : Bool = w .«was_direct» in
+    let direct : Bool = isDirectlyDrawn d in
+    let indirect : Bool = isIndirectlyDrawn d in
     record {
-      «horiz_parent» = (not here && inner) || (bar && solid);
-      «horiz_ancestor» = (not here && (not inner && outer)) || (bar && not solid);
-      «vert_parent» = on || (here && direct);
-      «vert_ancestor» = on-dashed || (here && indirect);
+      «horiz_parent» = not here && passesSolid b w i;
+      «horiz_ancestor» = not here && passesDashed b w i;
+      «vert_parent» = here && direct;
+      «vert_ancestor» = here && indirect;
       «left_fork_parent» = ltb c i && direct;
       «left_fork_ancestor» = ltb c i && indirect;
       «right_fork_parent» = (ltb i c && direct) || (bend && solid);
@@ -81,14 +128,27 @@ marksAt b i swapped solid gone ahead drawn direct indirect on on-dashed =
       «left_merge_ancestor» = (here && (not (ltb (b .«min_parent») c) && ltb (b .«min_ancestor») c)) || (gone && not solid);
       «right_merge_parent» = here && ltb c (b .«max_parent»);
       «right_merge_ancestor» = here && (not (ltb c (b .«max_parent»)) && ltb c (b .«max_ancestor»));
-      child = here && drawn;
+      child = here && isDrawn d;
     }
 
--- the same, where m draws in the cell (`next_row_shape`)
-abbrev pub marksOf : AncestorColumnBounds → Swap → ℕ → Met → Bool → Bool → Marks
-marksOf b w i m =
-    let up : Found = w .«given_up» in
-    marksAt b i (foundAs (λ p. true) up) (w .«was_direct») (isAt up i) (foundAs (ltb i) up) (isMet m) (met isDirect m) (met (λ e. not (isDirect e)) m)
+-- those, with the line of the column before the entries, which goes straight on but where the column is given up (`column_to_link_line`)
+abbrev pub withUprights : Bool → Column → Marks → Marks
+withUprights gone b m =
+    record {
+      «horiz_parent» = m .«horiz_parent»;
+      «horiz_ancestor» = m .«horiz_ancestor»;
+      «vert_parent» = (isParent b && not gone) || m .«vert_parent»;
+      «vert_ancestor» = (isAncestor b && not gone) || m .«vert_ancestor»;
+      «left_fork_parent» = m .«left_fork_parent»;
+      «left_fork_ancestor» = m .«left_fork_ancestor»;
+      «right_fork_parent» = m .«right_fork_parent»;
+      «right_fork_ancestor» = m .«right_fork_ancestor»;
+      «left_merge_parent» = m .«left_merge_parent»;
+      «left_merge_ancestor» = m .«left_merge_ancestor»;
+      «right_merge_parent» = m .«right_merge_parent»;
+      «right_merge_ancestor» = m .«right_merge_ancestor»;
+      child = m .child;
+    }
 
 -- there is a link line where an entry's column, or the one given up, is not the node's own (`need_link_line`)
 abbrev pub linked : AncestorColumnBounds → Swap → Bool

@@ -1,20 +1,28 @@
 // The marks of a row's link line, after graph_to_row_shape.rs.
 ghost use mathlib.Core.Path.{_≡_};
-ghost use mathlib.Core.Bool.{true, cond, not};
-ghost use Prim.Native.Nat.{_+_, min, max};
-ghost use lib.Dec.{ltb, eqb};
-ghost use Rattle.render.specs.Entries.{isDirect, isAnonymous};
-ghost use Rattle.links.specs.Links.{met as metAs, isMet, foundAs, isAt, linked, boundsOf};
-ghost use Rattle.links.specs.Inner.{reaching as reachingOf, metIn, parentsIn, mets, fromNode, passing as passingIn, withUprights, reachStart, reachLast};
+ghost use mathlib.Core.Bool.{true, cond};
+ghost use Prim.Native.Nat.{min, max};
+ghost use lib.Dec.{ltb};
+ghost use Rattle.render.specs.Link.{strokes};
+ghost use Rattle.links.specs.Links.{drawnBy, isDrawn, isDirectlyDrawn, isIndirectlyDrawn, isAnonymouslyDrawn, foundAs, isAt, boundsOf, passesSolid, passesDashed, fromNode, withUprights, linked};
+ghost use Rattle.links.specs.Inner.{nobody, parentOf, kinds, reaching as reachingOf, reachStart, reachLast, reaches};
+use column::COLUMN_LIMIT;
 use column::Column;
 use column::Found;
 use render::Ancestor;
 use render::Marks;
 
-// Who draws in a column: the last entry that met it.
-pub enum Met {
+// Who draws in a column, by its kind: the last entry that met it, an Anonymous one too, or nobody.
+pub enum Drawn {
     Nobody,
-    By(Ancestor),
+    Indirect,
+    Direct,
+    Anonymous,
+}
+
+// One column of the parents' columns (the `BTreeMap` of parents).
+pub struct ParentColumn {
+    pub drawn: Drawn,
 }
 
 // How far the entries' columns reach from the node's.
@@ -32,59 +40,82 @@ pub struct Swap {
     pub was_direct: bool,
 }
 
-impl Met {
-    // Whether an entry draws.
-    pub fn is_met(self) -> bool
-        ensures { λ r. ⌜ r ≡ isMet self ⌝ }
+impl Drawn {
+    // The kind of an entry that draws.
+    pub fn by(ancestor: Ancestor) -> Drawn
+        ensures { λ r. ⌜ r ≡ drawnBy ancestor ⌝ }
     {
-        match self {
-            Met::Nobody => false,
-            Met::By(_) => true,
+        match ancestor {
+            Ancestor::Ancestor(_) => Drawn::Indirect,
+            Ancestor::Parent(_) => Drawn::Direct,
+            Ancestor::Anonymous => Drawn::Anonymous,
         }
     }
 
-    // Whether a direct entry draws.
-    pub fn is_direct(self) -> bool
-        ensures { λ r. ⌜ r ≡ metAs isDirect self ⌝ }
+    // Whether an entry draws.
+    pub fn is_drawn(self) -> bool
+        ensures { λ r. ⌜ r ≡ isDrawn self ⌝ }
     {
         match self {
-            Met::Nobody => false,
-            Met::By(ancestor) => ancestor.is_direct(),
+            Drawn::Nobody => false,
+            Drawn::Indirect => true,
+            Drawn::Direct => true,
+            Drawn::Anonymous => true,
+        }
+    }
+
+    // Whether an entry draws that counts as direct.
+    pub fn is_direct(self) -> bool
+        ensures { λ r. ⌜ r ≡ isDirectlyDrawn self ⌝ }
+    {
+        match self {
+            Drawn::Nobody => false,
+            Drawn::Indirect => false,
+            Drawn::Direct => true,
+            Drawn::Anonymous => true,
         }
     }
 
     // Whether an indirect entry draws.
     pub fn is_indirect(self) -> bool
-        ensures { λ r. ⌜ r ≡ metAs (λ e. not (isDirect e)) self ⌝ }
+        ensures { λ r. ⌜ r ≡ isIndirectlyDrawn self ⌝ }
     {
         match self {
-            Met::Nobody => false,
-            Met::By(ancestor) => !ancestor.is_direct(),
+            Drawn::Nobody => false,
+            Drawn::Indirect => true,
+            Drawn::Direct => false,
+            Drawn::Anonymous => false,
         }
     }
 
     // Whether an Anonymous entry draws.
     pub fn is_anonymous(self) -> bool
-        ensures { λ r. ⌜ r ≡ metAs isAnonymous self ⌝ }
+        ensures { λ r. ⌜ r ≡ isAnonymouslyDrawn self ⌝ }
     {
         match self {
-            Met::Nobody => false,
-            Met::By(ancestor) => ancestor.is_anonymous(),
+            Drawn::Nobody => false,
+            Drawn::Indirect => false,
+            Drawn::Direct => false,
+            Drawn::Anonymous => true,
         }
     }
 }
 
-// Who draws, where a word holds the column that the entry merges as; an Empty one is nobody's.
-pub fn met_of(code: u64) -> Met
-    ensures { λ r. ⌜ r ≡ metIn code ⌝ }
-{
-    let column = column::column_of(code);
-    match column {
-        Column::Empty => Met::Nobody,
-        Column::Blocked => Met::By(Ancestor::Anonymous),
-        Column::Reserved(id) => Met::By(Ancestor::Parent(id)),
-        Column::Ancestor(id) => Met::By(Ancestor::Ancestor(id)),
-        Column::Parent(id) => Met::By(Ancestor::Parent(id)),
+impl ParentColumn {
+    // A column in which nobody draws.
+    pub fn nobody() -> ParentColumn
+        ensures { λ r. ⌜ r ≡ nobody ⌝ }
+    {
+        let drawn = Drawn::Nobody;
+        ParentColumn { drawn }
+    }
+
+    // A column in which an entry draws.
+    pub fn drawn_by(ancestor: Ancestor) -> ParentColumn
+        ensures { λ r. ⌜ r ≡ parentOf ancestor ⌝ }
+    {
+        let drawn = Drawn::by(ancestor);
+        ParentColumn { drawn }
     }
 }
 
@@ -108,13 +139,13 @@ fn greatest(a: usize, b: usize) -> usize
 }
 
 impl AncestorColumnBounds {
-    // The bounds with one more column.
-    fn reaching(self, index: usize, met: Met) -> AncestorColumnBounds
-        ensures { λ r. ⌜ r ≡ reachingOf self index met ⌝ }
+    // The bounds with one more column, in which an entry draws.
+    fn reaching(self, index: usize, drawn: Drawn) -> AncestorColumnBounds
+        ensures { λ r. ⌜ r ≡ reachingOf self index drawn ⌝ }
     {
         let target = self.target;
-        let any = pick(met.is_met(), index, target);
-        let direct = pick(met.is_direct(), index, target);
+        let any = pick(drawn.is_drawn(), index, target);
+        let direct = pick(drawn.is_direct(), index, target);
         AncestorColumnBounds {
             target,
             min_ancestor: least(self.min_ancestor, any),
@@ -124,21 +155,25 @@ impl AncestorColumnBounds {
         }
     }
 
-    // The same by the word of who draws, if anyone does.
-    fn reaching_word(self, index: usize, code: u64) -> AncestorColumnBounds
-        ensures { λ r. ⌜ r ≡ cond (eqb code 0) self (reachingOf self index (metIn code)) ⌝ }
+    // The same, if an entry draws there; else they stay.
+    fn with_column(self, index: usize, drawn: Drawn) -> AncestorColumnBounds
+        ensures { λ r. ⌜ r ≡ cond (isDrawn drawn) (reachingOf self index drawn) self ⌝ }
     {
-        if code == 0 {
-            return self;
+        if drawn.is_drawn() {
+            return self.reaching(index, drawn);
         }
-        self.reaching(index, met_of(code))
+        self
     }
 
-    // The bounds of the parents' columns, the first `width` ones, which are walked upward (the `BTreeMap` of parents).
-    pub fn new(parents: &[u64], width: usize, target: usize) -> AncestorColumnBounds
-        ensures { λ r. ⌜ r ≡ boundsOf (mets width (parentsIn (now (parents .entry)))) target ⌝ }
+    // The bounds of the parents' columns, the first `width` ones, which are walked upward.
+    pub fn new(
+        parents: [ParentColumn; COLUMN_LIMIT],
+        width: usize,
+        target: usize,
+    ) -> AncestorColumnBounds
+        ensures { λ r. ⌜ r ≡ boundsOf (kinds width parents) target ⌝ }
     {
-        let n = column::live_words(parents, width);
+        let n = column::live_count(width);
         let mut bounds = AncestorColumnBounds {
             target,
             min_ancestor: target,
@@ -148,14 +183,16 @@ impl AncestorColumnBounds {
         };
         let mut i: usize = 0;
         while i < n {
-            bounds = bounds.reaching_word(i, parents[i]);
+            let parent = parents[i];
+            let drawn = parent.drawn;
+            bounds = bounds.with_column(i, drawn);
             i += 1;
         }
         bounds
     }
 
     // The first column that the entries or the swap reach.
-    pub fn reach_start(self, swap: Swap) -> usize
+    fn reach_start(self, swap: Swap) -> usize
         ensures { λ r. ⌜ r ≡ reachStart self swap ⌝ }
     {
         let first = self.min_ancestor;
@@ -178,15 +215,11 @@ impl AncestorColumnBounds {
         }
     }
 
-    // Where the columns end that they reach, of the first `width` ones.
-    pub fn reach_end(self, swap: Swap, width: usize) -> usize
-        ensures { λ r. ⌜ r ≡ min (reachLast self swap + 1) width ⌝ }
+    // Whether they reach a column.
+    pub fn reaches(self, swap: Swap, index: usize) -> bool
+        ensures { λ r. ⌜ r ≡ reaches self swap index ⌝ }
     {
-        let last = self.reach_last(swap);
-        if last < width {
-            return last + 1;
-        }
-        width
+        (self.reach_start(swap) <= index) & (index <= self.reach_last(swap))
     }
 
     // Whether the row has a link line: an entry's column, or the one given up, is not the node's own.
@@ -228,43 +261,9 @@ fn is_before(index: usize, found: Found) -> bool
     }
 }
 
-// The marks that come from the node in one cell, where `met` draws (`link_line_from_node`).
-pub fn from_node(bounds: AncestorColumnBounds, swap: Swap, index: usize, met: Met) -> Marks
-    ensures { λ r. ⌜ r ≡ fromNode bounds swap index met ⌝ }
-{
-    let target = bounds.target;
-    let given_up = swap.given_up;
-    let solid = swap.was_direct;
-    let here = index == target;
-    let inner = (bounds.min_parent < index) & (index < bounds.max_parent);
-    let outer = (bounds.min_ancestor < index) & (index < bounds.max_ancestor);
-    let gone = is_at(given_up, index);
-    let bar = (target < index) & is_before(index, given_up);
-    let bend = here & is_some(given_up);
-    let direct = met.is_direct();
-    let indirect = met.is_indirect();
-    let left = bounds.min_parent < target;
-    let right = target < bounds.max_parent;
-    Marks {
-        horiz_parent: (!here & inner) | (bar & solid),
-        horiz_ancestor: (!here & (!inner & outer)) | (bar & !solid),
-        vert_parent: here & direct,
-        vert_ancestor: here & indirect,
-        left_fork_parent: (target < index) & direct,
-        left_fork_ancestor: (target < index) & indirect,
-        right_fork_parent: ((index < target) & direct) | (bend & solid),
-        right_fork_ancestor: ((index < target) & indirect) | (bend & !solid),
-        left_merge_parent: (here & left) | (gone & solid),
-        left_merge_ancestor: (here & (!left & (bounds.min_ancestor < target))) | (gone & !solid),
-        right_merge_parent: here & right,
-        right_merge_ancestor: here & (!right & (target < bounds.max_ancestor)),
-        child: here & met.is_met(),
-    }
-}
-
-// Those marks in a cell in which nothing of the row ends: a horizontal stroke that passes, or none (`horizontal_line`).
-pub fn passing(bounds: AncestorColumnBounds, swap: Swap, index: usize) -> Marks
-    ensures { λ r. ⌜ r ≡ passingIn bounds swap index ⌝ }
+// The strokes that pass a cell, solid and dashed, and no other mark (`horizontal_line`).
+fn passing(bounds: AncestorColumnBounds, swap: Swap, index: usize) -> Marks
+    ensures { λ r. ⌜ r ≡ strokes (passesSolid bounds swap index) (passesDashed bounds swap index) ⌝ }
 {
     let given_up = swap.given_up;
     let solid = swap.was_direct;
@@ -275,6 +274,50 @@ pub fn passing(bounds: AncestorColumnBounds, swap: Swap, index: usize) -> Marks
     out.horiz_parent = inner | (bar & solid);
     out.horiz_ancestor = (!inner & outer) | (bar & !solid);
     out
+}
+
+// The marks that come from the node in a cell in which something of the row ends: the node's, one in which an entry draws, or the one
+// given up.
+fn ending(bounds: AncestorColumnBounds, swap: Swap, index: usize, drawn: Drawn) -> Marks
+    ensures { λ r. ⌜ r ≡ fromNode bounds swap index drawn ⌝ }
+{
+    let target = bounds.target;
+    let given_up = swap.given_up;
+    let solid = swap.was_direct;
+    let here = index == target;
+    let stroke = passing(bounds, swap, index);
+    let gone = is_at(given_up, index);
+    let bend = here & is_some(given_up);
+    let direct = drawn.is_direct();
+    let indirect = drawn.is_indirect();
+    let left = bounds.min_parent < target;
+    let right = target < bounds.max_parent;
+    Marks {
+        horiz_parent: !here & stroke.horiz_parent,
+        horiz_ancestor: !here & stroke.horiz_ancestor,
+        vert_parent: here & direct,
+        vert_ancestor: here & indirect,
+        left_fork_parent: (target < index) & direct,
+        left_fork_ancestor: (target < index) & indirect,
+        right_fork_parent: ((index < target) & direct) | (bend & solid),
+        right_fork_ancestor: ((index < target) & indirect) | (bend & !solid),
+        left_merge_parent: (here & left) | (gone & solid),
+        left_merge_ancestor: (here & (!left & (bounds.min_ancestor < target))) | (gone & !solid),
+        right_merge_parent: here & right,
+        right_merge_ancestor: here & (!right & (target < bounds.max_ancestor)),
+        child: here & drawn.is_drawn(),
+    }
+}
+
+// The marks that come from the node in one cell (`link_line_from_node`); where nothing of the row ends, the strokes that pass.
+pub fn from_node(bounds: AncestorColumnBounds, swap: Swap, index: usize, drawn: Drawn) -> Marks
+    ensures { λ r. ⌜ r ≡ fromNode bounds swap index drawn ⌝ }
+{
+    let given_up = swap.given_up;
+    if (index != bounds.target) & (!drawn.is_drawn() & !is_at(given_up, index)) {
+        return passing(bounds, swap, index);
+    }
+    ending(bounds, swap, index, drawn)
 }
 
 // Those marks with the lines that go straight on: the column's before the entries, but not where it was given up (`link_line`).

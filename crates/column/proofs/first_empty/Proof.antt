@@ -1,43 +1,38 @@
 use Rattle.column.proofs.first_empty.Statement.{statement}
 use Rattle.column.proofs.first_empty.Tie as tie
-use Prim.Native.Nat.{_≤_, _-_}
+use Prim.Native.Nat.{_+_, _≤_, _-_}
 use mathlib.Core.Path.{_≡_, sym, _∙_}
 use native.Mathlib.Omega.{arith}
+use borrow.Author.Needs.{needs}
 use lib.ListN.{drop}
 use Rattle.column.specs.Columns.{live, first, isEmpty}
-use Rattle.column.specs.Codes.{slotsIn}
-use Rattle.column.proofs.Laws.{later, later-zero}
-use Rattle.column.proofs.CodeLaws.{search-hit, search-miss, search-end}
-use borrow.Author.Needs.{needs}
+use Rattle.column.proofs.Laws.{later, later-zero, first-hit, first-miss, first-end, live-at, live-below, live-past}
 
 abbrev Inv-loop : tie.InvT-loop
-Inv-loop codes count n i₀ i = (i ≤ n) × (first isEmpty (live count (slotsIn codes)) ≡ later i (first isEmpty (drop i (live count (slotsIn codes)))))
+Inv-loop count slots n i₀ i = (i ≤ n) × (first isEmpty (live count slots) ≡ later i (first isEmpty (drop i (live count slots))))
 
 abbrev μ-loop : tie.MeasureT-loop
-μ-loop codes count n i₀ i = n - i
+μ-loop count slots n i₀ i = n - i
 
-live-words-requires : tie.Need-live-words-requires Inv-loop μ-loop
-live-words-requires c κs = search needs
+live-count-requires : tie.Need-live-count-requires Inv-loop μ-loop
+live-count-requires c κs = search needs
 
 loop-holds : tie.Need-loop-holds Inv-loop μ-loop
 loop-holds c = (omega arith, later-zero _)
 
-mul-column-of : tie.Need-mul-column-of Inv-loop μ-loop
-mul-column-of c = search needs
+mul-slot : tie.Need-mul-slot Inv-loop μ-loop
+mul-slot c = search needs
 
-shared-slice-read-column-of : tie.Need-shared-slice-read-column-of Inv-loop μ-loop
-shared-slice-read-column-of c = search needs
-
-column-of-requires : tie.Need-column-of-requires Inv-loop μ-loop
-column-of-requires c κs = search needs
+array-copy-out-slot : tie.Need-array-copy-out-slot Inv-loop μ-loop
+array-copy-out-slot c = search needs
 
 is-empty-requires : tie.Need-is-empty-requires Inv-loop μ-loop
 is-empty-requires c κs = search needs
 
 returns : tie.Need-returns Inv-loop μ-loop
-returns c = let a = c .before .before .before .before .before .before .before .before .args in
-    let l = c .before .before .before .before .before .loop in
-    sym (l .inv .1 ∙ search-hit (a .count) (a .codes .now) (l .i) isEmpty _ (omega arith) (omega arith) (c .before .before .column-of .ensures) (sym (c .before .is-empty .ensures) ∙ c .if1 .taken))
+returns c = let a = c .before .before .before .before .before .before .args in
+    sym (c .before .before .before .before .loop .inv .1 ∙ first-hit isEmpty (live (a .count) (a .t1)) (c .before .before .before .before .loop .i) (live-below (a .count) (a .t1) (c .before .before .before .before .loop .i) (omega arith) (omega arith))
+    (rw (live-at (a .count) (a .t1) (c .before .before .before .before .loop .i) (omega arith) (omega arith)) (sym (c .before .is-empty .ensures) ∙ c .if1 .taken)))
 
 add-i : tie.Need-add-i Inv-loop μ-loop
 add-i c = search needs
@@ -46,14 +41,15 @@ loop-less : tie.Need-loop-less Inv-loop μ-loop
 loop-less c = search needs
 
 loop-again : tie.Need-loop-again Inv-loop μ-loop
-loop-again c = let a = c .before .before .before .before .before .before .before .before .args in
-    let l = c .before .before .before .before .before .loop in
-    (omega arith, l .inv .1 ∙ search-miss (a .count) (a .codes .now) (l .i) isEmpty _ (omega arith) (omega arith) (c .before .before .column-of .ensures) (sym (c .before .is-empty .ensures) ∙ c .if1 .left))
+loop-again c = let a = c .before .before .before .before .before .before .args in (
+  omega arith,
+  c .before .before .before .before .loop .inv .1 ∙ first-miss isEmpty (live (a .count) (a .t1)) (c .before .before .before .before .loop .i) (live-below (a .count) (a .t1) (c .before .before .before .before .loop .i) (omega arith) (omega arith))
+      (rw (live-at (a .count) (a .t1) (c .before .before .before .before .loop .i) (omega arith) (omega arith)) (sym (c .before .is-empty .ensures) ∙ c .if1 .left)),
+)
 
 returns-2 : tie.Need-returns-2 Inv-loop μ-loop
-returns-2 c = let a = c .before .before .before .before .args in
-    let l = c .before .loop in
-    sym (l .inv .1 ∙ search-end (a .count) (a .codes .now) (l .i) isEmpty (omega arith))
+returns-2 c = let a = c .before .before .before .args in
+    sym (c .before .loop .inv .1 ∙ first-end isEmpty (live (a .count) (a .t1)) (c .before .loop .i) (live-past (a .count) (a .t1) (c .before .loop .i) (omega arith)))
 
 pub first-empty-spec : {M : Type 1} → statement M
 first-empty-spec =
@@ -61,11 +57,10 @@ first-empty-spec =
     (tie.spec
     Inv-loop
     μ-loop
-    live-words-requires
+    live-count-requires
     loop-holds
-    mul-column-of
-    shared-slice-read-column-of
-    column-of-requires
+    mul-slot
+    array-copy-out-slot
     is-empty-requires
     returns
     add-i

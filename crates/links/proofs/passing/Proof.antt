@@ -1,3 +1,4 @@
+-- The strokes that pass a cell.
 use borrow.Author.Needs.{needs}
 use Rattle.links.proofs.passing.Statement.{statement}
 use Rattle.links.proofs.passing.Tie as tie

@@ -1,9 +1,10 @@
+-- The bounds with one more column.
 use borrow.Author.Needs.{needs}
 use Rattle.links.proofs.AncestorColumnBounds.reaching.Statement.{statement}
 use Rattle.links.proofs.AncestorColumnBounds.reaching.Tie as tie
 
-is-met-requires : tie.Need-is-met-requires
-is-met-requires c κs = search needs
+is-drawn-requires : tie.Need-is-drawn-requires
+is-drawn-requires c κs = search needs
 
 pick-requires : tie.Need-pick-requires
 pick-requires c κs = search needs
@@ -27,13 +28,13 @@ greatest-requires-2 : tie.Need-greatest-requires-2
 greatest-requires-2 c κs = search needs
 
 returns : tie.Need-returns
-returns c = rw (c .greatest2 .ensures, c .before .greatest .ensures, c .before .before .least2 .ensures, c .before .before .before .least .ensures, c .before .before .before .before .pick2 .ensures, c .before .before .before .before .before .is-direct .ensures, c .before .before .before .before .before .before .pick .ensures, c .before .before .before .before .before .before .before .is-met .ensures)
+returns c = rw (c .greatest2 .ensures, c .before .greatest .ensures, c .before .before .least2 .ensures, c .before .before .before .least .ensures, c .before .before .before .before .pick2 .ensures, c .before .before .before .before .before .is-direct .ensures, c .before .before .before .before .before .before .pick .ensures, c .before .before .before .before .before .before .before .is-drawn .ensures)
 
 pub reaching-spec : {M : Type 1} → statement M
 reaching-spec =
     tie.close
     (tie.spec
-    is-met-requires
+    is-drawn-requires
     pick-requires
     is-direct-requires
     pick-requires-2

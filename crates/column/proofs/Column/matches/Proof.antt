@@ -1,6 +1,6 @@
 use borrow.Author.Needs.{needs}
-use Rattle.column.proofs.Column.id.Statement.{statement}
-use Rattle.column.proofs.Column.id.Tie as tie
+use Rattle.column.proofs.Column.matches.Statement.{statement}
+use Rattle.column.proofs.Column.matches.Tie as tie
 
 enum-told : tie.Need-enum-told
 enum-told c = search needs
@@ -32,8 +32,8 @@ returns-4 c = rw (c .before .self2 .given .1)
 returns-5 : tie.Need-returns-5
 returns-5 c = rw (c .before .self3 .given .1)
 
-pub id-spec : {M : Type 1} → statement M
-id-spec =
+pub matches-spec : {M : Type 1} → statement M
+matches-spec =
     tie.close
     (tie.spec
     enum-told
