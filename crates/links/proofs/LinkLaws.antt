@@ -33,6 +33,13 @@ not-drawn Indirect h = let z : _≡_ {A = ℕ} 0 1 = cc in absurd (omega arith)
 not-drawn Direct h = let z : _≡_ {A = ℕ} 0 1 = cc in absurd (omega arith)
 not-drawn Anonymous h = let z : _≡_ {A = ℕ} 0 1 = cc in absurd (omega arith)
 
+-- one of two, by a test that was made
+pub chosen : {A : Type 0} (t : Bool) (x y r : A) → t ≡ true → r ≡ x → r ≡ cond t x y
+chosen t x y r h e = rw h e
+
+pub not-chosen : {A : Type 0} (t : Bool) (x y r : A) → t ≡ false → r ≡ y → r ≡ cond t x y
+not-chosen t x y r h e = rw h e
+
 min-assoc : (x y z : ℕ) → min (min x y) z ≡ min x (min y z)
 min-assoc x y z = omega arith
 
@@ -190,6 +197,16 @@ none : (b : Bool) → (b && false) ≡ false
 none true = refl
 none false = refl
 
+-- what the test says: the cell is not the node's, nobody draws in it, and it was not given up
+pub nothing-ends : (i c : ℕ) (drawn gone : Bool) → (not (eqb i c) && (not drawn && not gone)) ≡ true → (eqb i c ≡ false) × (drawn ≡ false) × (gone ≡ false)
+nothing-ends i c drawn gone = go (eqb i c) drawn gone
+  where
+    go : (x y z : Bool) → (not x && (not y && not z)) ≡ true → (x ≡ false) × (y ≡ false) × (z ≡ false)
+    go false false false h = (refl, refl, refl)
+    go true y z h = let t : _≡_ {A = ℕ} 0 1 = cc in absurd (omega arith)
+    go false true z h = let t : _≡_ {A = ℕ} 0 1 = cc in absurd (omega arith)
+    go false false true h = let t : _≡_ {A = ℕ} 0 1 = cc in absurd (omega arith)
+
 -- a cell in which nothing of the row ends has the strokes that pass it
 pub passing-is : (b : AncestorColumnBounds) (w : Swap) (i : ℕ) (d : Drawn) → eqb i (b .target) ≡ false → isDrawn d ≡ false → isAt (w .«given_up») i ≡ false
     → strokes (passesSolid b w i) (passesDashed b w i) ≡ fromNode b w i d
@@ -217,31 +234,25 @@ direct-drawn Anonymous h = refl
 
 leftmost-direct : (ds : List Drawn) (i c : ℕ) → leftmost isDrawn ds i c ≤ leftmost isDirectlyDrawn ds i c
 leftmost-direct [] i c = omega arith
-leftmost-direct (m ∷ ds) i c = go (isDirectlyDrawn m) refl (isDrawn m) refl
+leftmost-direct (m ∷ ds) i c = go (leftmost-direct ds (suc i) c) (isDirectlyDrawn m) refl (isDrawn m) refl
   where
-    more : leftmost isDrawn ds (suc i) c ≤ leftmost isDirectlyDrawn ds (suc i) c
-    more = leftmost-direct ds (suc i) c
-
-    go : (a : Bool) → isDirectlyDrawn m ≡ a → (b : Bool) → isDrawn m ≡ b
+    go : leftmost isDrawn ds (suc i) c ≤ leftmost isDirectlyDrawn ds (suc i) c → (a : Bool) → isDirectlyDrawn m ≡ a → (b : Bool) → isDrawn m ≡ b
         → min (cond b i c) (leftmost isDrawn ds (suc i) c) ≤ min (cond a i c) (leftmost isDirectlyDrawn ds (suc i) c)
-    go true p true q = omega (arith, more)
-    go true p false q = let z : _≡_ {A = Bool} false true = sym q ∙ direct-drawn m p in let y : _≡_ {A = ℕ} 0 1 = cc in absurd (omega arith)
-    go false p true q = omega (arith, more, leftmost-within isDrawn ds (suc i) c)
-    go false p false q = omega (arith, more)
+    go more true p true q = omega (arith, more)
+    go more true p false q = let z : _≡_ {A = Bool} false true = sym q ∙ direct-drawn m p in let y : _≡_ {A = ℕ} 0 1 = cc in absurd (omega arith)
+    go more false p true q = omega (arith, more, leftmost-within isDrawn ds (suc i) c)
+    go more false p false q = omega (arith, more)
 
 rightmost-direct : (ds : List Drawn) (i c : ℕ) → rightmost isDirectlyDrawn ds i c ≤ rightmost isDrawn ds i c
 rightmost-direct [] i c = omega arith
-rightmost-direct (m ∷ ds) i c = go (isDirectlyDrawn m) refl (isDrawn m) refl
+rightmost-direct (m ∷ ds) i c = go (rightmost-direct ds (suc i) c) (isDirectlyDrawn m) refl (isDrawn m) refl
   where
-    more : rightmost isDirectlyDrawn ds (suc i) c ≤ rightmost isDrawn ds (suc i) c
-    more = rightmost-direct ds (suc i) c
-
-    go : (a : Bool) → isDirectlyDrawn m ≡ a → (b : Bool) → isDrawn m ≡ b
+    go : rightmost isDirectlyDrawn ds (suc i) c ≤ rightmost isDrawn ds (suc i) c → (a : Bool) → isDirectlyDrawn m ≡ a → (b : Bool) → isDrawn m ≡ b
         → max (cond a i c) (rightmost isDirectlyDrawn ds (suc i) c) ≤ max (cond b i c) (rightmost isDrawn ds (suc i) c)
-    go true p true q = omega (arith, more)
-    go true p false q = let z : _≡_ {A = Bool} false true = sym q ∙ direct-drawn m p in let y : _≡_ {A = ℕ} 0 1 = cc in absurd (omega arith)
-    go false p true q = omega (arith, more, rightmost-within isDrawn ds (suc i) c)
-    go false p false q = omega (arith, more)
+    go more true p true q = omega (arith, more)
+    go more true p false q = let z : _≡_ {A = Bool} false true = sym q ∙ direct-drawn m p in let y : _≡_ {A = ℕ} 0 1 = cc in absurd (omega arith)
+    go more false p true q = omega (arith, more, rightmost-within isDrawn ds (suc i) c)
+    go more false p false q = omega (arith, more)
 
 -- what holds of a column that the row does not reach
 pub record Unreached (b : AncestorColumnBounds) (w : Swap) (ds : List Drawn) (i : ℕ) : Type 0 where
