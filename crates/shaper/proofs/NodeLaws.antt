@@ -1,8 +1,8 @@
 -- Laws of the definitions in specs/NodeColumn.antt, one for each return of the functions, and where the node's column lies.
 use Prim.Native.Nat.{ℕ, suc, _+_, _≤_, _<_, min}
-use mathlib.Core.Path.{_≡_, refl, _∙_, sym}
+use mathlib.Core.Path.{_≡_, refl, ap, _∙_, sym}
 use mathlib.Core.Bool.{Bool, true, false, cond, not, _&&_, _||_}
-use mathlib.Core.List.{List}
+use mathlib.Core.List.{List, [], _∷_}
 use native.Mathlib.Numerals.{add-one}
 use native.Mathlib.Omega.{arith}
 use lib.Dec.{ltb, leb, eqb}
@@ -10,17 +10,15 @@ use lib.ListN.{length, getD, set, length-set}
 use borrow.Author.Tests.{lt-ltb, le-ltb, le-leb, lt-leb, ltb-true, ltb-false, eq-eqb, ne-eqb}
 use Rattle.column.specs.declared.Column.{Column}
 use Rattle.column.specs.declared.Column.the-variants.{Blocked}
+use Rattle.column.specs.declared.Slot.{Slot}
 use Rattle.column.specs.declared.Found.{Found}
 use Rattle.column.specs.declared.Found.the-variants.{At, Nothing}
-use Rattle.column.specs.Columns.{columnLimit, isEmpty, isReserved, first, orElse, vacant, live, find}
-use Rattle.column.proofs.Laws.{first-below}
-use Rattle.column.proofs.Positions.{past-end}
-use Rattle.column.proofs.CodeLaws.{code-at, code-past}
-use Rattle.column.specs.Codes.{columnIn, slotsIn}
+use Rattle.column.specs.Columns.{columnLimit, isEmpty, isReserved, first, orElse, vacant, live, find, at, emptySlot}
+use Rattle.column.proofs.Laws.{first-below, live-at}
 use Rattle.render.specs.declared.types.Options.{Options}
-use Rattle.shaper.specs.Shaper.{heightLimit, View}
-use Rattle.shaper.specs.NodeColumn.{dense, unallocated, head, staggered, nodeColumn}
-use Rattle.shaper.specs.Inner.{fitting, viewWith}
+use Rattle.shaper.specs.Shaper.{heightLimit, View, viewWith}
+use Rattle.shaper.specs.NodeColumn.{dense, unallocated, headAt, head, staggered, nodeColumn, fitting, lookupRefusal, Finds}
+use Rattle.render.specs.Refusals.{_when_, refusal}
 
 -- ---- whether staggering counts, by the code's test
 pub not-dense : (b : Bool) (h : ℕ) → (not b || ltb 1 h) ≡ true → (b && leb (min h heightLimit) 1) ≡ false
@@ -66,19 +64,33 @@ fitting-in c h = rw (lt-ltb c columnLimit h)
 pub fitting-out : (c : ℕ) → columnLimit ≤ c → Nothing ≡ fitting c
 fitting-out c h = rw (le-ltb c columnLimit h)
 
-pub find-column-free : (r existing : Found) (c u : ℕ) → existing ≡ Nothing → c ≡ u → r ≡ fitting c → r ≡ fitting (orElse existing u)
-find-column-free r existing c u e f g = rw (e, ← f) g
+-- what a column that fits, or none, gives
+finds : (c : ℕ) → Finds c (fitting c)
+finds c = go (ltb c columnLimit) refl
+  where
+    go : (b : Bool) → ltb c columnLimit ≡ b → Finds c (cond b (At c) Nothing)
+    go true q = record { column = rw q; number = rw (lt-leb columnLimit c (ltb-true _ _ q)) }
+    go false q = record { column = rw q; number = rw (le-leb columnLimit c (ltb-false _ _ q)) }
 
-pub find-column-held : (r existing : Found) (i u : ℕ) → existing ≡ At i → r ≡ fitting i → r ≡ fitting (orElse existing u)
-find-column-held r existing i u e g = rw e g
+pub find-column-free : (r existing : Found) (c u : ℕ) → existing ≡ Nothing → c ≡ u → r ≡ fitting c → Finds (orElse existing u) r
+find-column-free r existing c u e f g = rw (e, ← f, g) (finds c)
+
+pub find-column-held : (r existing : Found) (i u : ℕ) → existing ≡ At i → r ≡ fitting i → Finds (orElse existing u) r
+find-column-held r existing i u e g = rw (e, g) (finds i)
 
 -- ---- head
-module _ (l : List ℕ) (count : ℕ) (existing : Found) (i : ℕ) (e : existing ≡ At i) where
-  pub head-out : min count (length l) ≤ i → false ≡ head existing (live count (slotsIn l))
-  head-out h = rw (e, past-end (live count (slotsIn l)) i (code-past count l i h))
-
-  pub head-in : (c : Column) (r : Bool) → i < min count (length l) → c ≡ columnIn (getD l i 0) → r ≡ isReserved c → r ≡ head existing (live count (slotsIn l))
-  head-in c r h f g = rw (e, code-at count l i (omega arith) (omega arith), ← f) g
+module _ (s : List Slot) (count : ℕ) (existing : Found) (c : ℕ) where
+  -- what stands in the node's column, where its id was held there
+  pub head-held : (held : Column) (r : Bool) → length s ≡ columnLimit → c < columnLimit → ((i : ℕ) → existing ≡ At i → (i ≡ c) × (i < count))
+      → held ≡ (getD s c emptySlot) .column → r ≡ headAt existing held → r ≡ head existing (live count s)
+  head-held held r long h near e g = go existing refl
+    where
+      go : (f : Found) → existing ≡ f → r ≡ head f (live count s)
+      go Nothing q = g ∙ rw q
+      go (At i) q =
+          let n = near i q in
+          let w : held ≡ at (live count s) i = e ∙ rw (n .0) (sym (live-at count s c (rw (← n .0) (n .1)) (rw long h))) in
+          g ∙ rw q (ap isReserved w)
 
 -- ---- the node's column is one there is, a new last one, or one past that
 vacant-in : (cs : List Column) → vacant cs ≤ suc (length cs)

@@ -1,3 +1,2 @@
 pub mod Shaper
 pub mod NodeColumn
-pub mod Inner

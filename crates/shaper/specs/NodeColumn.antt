@@ -1,14 +1,16 @@
 -- The node's column (01, "How a row finds its columns"; `find_column_for_unallocated_node` and `next_row_shape` in graph_to_row_shape.rs).
 use Prim.Native.Nat.{ℕ, suc}
 use mathlib.Core.Bool.{Bool, true, cond, _&&_}
-use mathlib.Core.List.{List}
-use lib.Dec.{leb, eqb}
+use mathlib.Core.Path.{_≡_}
+use mathlib.Core.List.{List, [], _∷_}
+use lib.Dec.{ltb, leb, eqb}
 use lib.ListN.{length, set}
 use Rattle.column.specs.declared.Column.{Column}
 use Rattle.column.specs.declared.Column.the-variants.{Blocked}
 use Rattle.column.specs.declared.Found.{Found}
 use Rattle.column.specs.declared.Found.the-variants.{At, Nothing}
-use Rattle.column.specs.Columns.{isEmpty, isReserved, first, find, orElse, vacant, at}
+use Rattle.column.specs.Columns.{columnLimit, isEmpty, isReserved, first, find, orElse, vacant, at}
+use Rattle.render.specs.Refusals.{_when_, refusal}
 use Rattle.shaper.specs.Shaper.{View}
 
 -- "Staggering counts only with `min_row_height` at most 1"
@@ -28,7 +30,27 @@ unallocated v = cond (dense v) (staggered (v .previous) (v .columns)) (vacant (v
 abbrev pub nodeColumn : View → ℕ → ℕ
 nodeColumn v n = orElse (find n (v .columns)) (unallocated v)
 
--- "Head: no column held, or a Reserved one."
+-- "Head: no column held, or a Reserved one.", where h stands in the node's column
+abbrev pub headAt : Found → Column → Bool
+headAt Nothing h = true
+headAt (At i) h = isReserved h
+
+-- the same, by the columns before the row
 abbrev pub head : Found → List Column → Bool
-head Nothing cs = true
-head (At i) cs = isReserved (at cs i)
+head f cs = headAt f (at cs (orElse f 0))
+
+-- ---- the lookup's answer
+
+-- the node's column, where the node line has room for it
+abbrev pub fitting : ℕ → Found
+fitting c = cond (ltb c columnLimit) (At c) Nothing
+
+-- the number of the answer: Nothing is 4, "node line would have more than 64 cells" (01, the table's row for row, text)
+abbrev pub lookupRefusal : Found → ℕ
+lookupRefusal (At i) = 0
+lookupRefusal Nothing = 4
+
+-- what the lookup of the node's column gives
+pub record Finds (c : ℕ) (r : Found) : Type 0 where
+  pub column : r ≡ fitting c
+  pub number : lookupRefusal r ≡ refusal ((4 when leb columnLimit c) ∷ [])

@@ -31,17 +31,20 @@ pub record View : Type 0 where
   pub stagger : Bool
   pub style : Style
 
--- "a column count above 64 is read as 64, a height above 16 as 16" (01, "Where a call turns back")
-abbrev pub viewOf : Shaper → View
-viewOf s =
-    let o : Options = s .options in
+-- what a shaper with these columns stands for: "a height above 16 [is read] as 16" (01, "Where a call turns back")
+abbrev pub viewWith : List Column → Found → Options → View
+viewWith cs p o =
     record {
-      columns = live (s .count) (s .slots);
-      previous = s .«previous_node_column»;
+      columns = cs;
+      previous = p;
       height = min (o .«min_row_height») heightLimit;
       stagger = o .«stagger_consecutive_disconnected_nodes»;
       style = o .«graph_row_shape_style»;
     }
+
+-- "a column count above 64 is read as 64" (01, "Where a call turns back")
+abbrev pub viewOf : Shaper → View
+viewOf s = viewWith (live (s .count) (s .slots)) (s .«previous_node_column») (s .options)
 
 -- what a call gives: the refusal's number, 0 for none, and the shaper after it
 pub record Reply : Type 0 where
@@ -100,9 +103,13 @@ reservedIn Nothing n cs = put cs (vacant cs) (Reserved n)
 abbrev pub reserved : ℕ → List Column → List Column
 reserved n cs = reservedIn (find n cs) n cs
 
+-- a view with other columns and another previous node column
+abbrev pub viewAfter : View → List Column → Found → View
+viewAfter v cs p = record { columns = cs; previous = p; height = v .height; stagger = v .stagger; style = v .style }
+
 -- a view with other columns
 abbrev pub withColumns : View → List Column → View
-withColumns v cs = record { columns = cs; previous = v .previous; height = v .height; stagger = v .stagger; style = v .style }
+withColumns v cs = viewAfter v cs (v .previous)
 
 -- the reserving call
 unfoldable pub reserve : View → ℕ → Reply

@@ -1,10 +1,8 @@
 // The shaper: its state, the new shaper call, the reserving call and the node's column, after graph_to_row_shape.rs.
 ghost use mathlib.Core.Path.{_≡_};
 ghost use Rattle.column.specs.Columns.{live, orElse};
-ghost use Rattle.column.specs.Codes.{slotsIn};
-ghost use Rattle.shaper.specs.Shaper.{fresh, refusedOptions, Fresh, Reserves};
-ghost use Rattle.shaper.specs.NodeColumn.{unallocated, head};
-ghost use Rattle.shaper.specs.Inner.{fitting, viewWith};
+ghost use Rattle.shaper.specs.Shaper.{viewWith, fresh, refusedOptions, Fresh, Reserves};
+ghost use Rattle.shaper.specs.NodeColumn.{headAt, unallocated, fitting, Finds};
 use column::COLUMN_LIMIT;
 use column::Column;
 use column::Found;
@@ -79,37 +77,33 @@ fn within_limit(column: usize) -> Found
     Found::Nothing
 }
 
-// Whether the node is a head: no column held, or a Reserved one.
-pub fn is_head(codes: &[u64], count: usize, existing: Found) -> bool
-    ensures { λ r. ⌜ r ≡ head existing (live count (slotsIn (now (codes .entry)))) ⌝ }
+// Whether the node is a head: no column held, or a Reserved one. `held` is what stands in the node's column.
+pub fn is_head(existing: Found, held: Column) -> bool
+    ensures { λ r. ⌜ r ≡ headAt existing held ⌝ }
 {
-    let Found::At(index) = existing else {
-        return true;
-    };
-    if column::live_words(codes, count) <= index {
-        return false;
+    match existing {
+        Found::At(_) => held.is_reserved(),
+        Found::Nothing => true,
     }
-    let column = column::column_of(codes[index]);
-    column.is_reserved()
 }
 
 // A column for a node that none holds.
 fn find_column_for_unallocated_node(
-    codes: &[u64],
+    slots: [Slot; COLUMN_LIMIT],
     count: usize,
     options: Options,
     previous_node_column: Found,
 ) -> usize
-    ensures { λ r. ⌜ r ≡ unallocated (viewWith (live count (slotsIn (now (codes .entry)))) «previous_node_column» options) ⌝ }
+    ensures { λ r. ⌜ r ≡ unallocated (viewWith (live count slots) «previous_node_column» options) ⌝ }
 {
     if !options.stagger_consecutive_disconnected_nodes | (1 < options.min_row_height) {
-        return column::vacant(codes, count);
+        return column::vacant(slots, count);
     }
     let Found::At(skip) = previous_node_column else {
-        return column::vacant(codes, count);
+        return column::vacant(slots, count);
     };
-    let Found::At(index) = column::first_other_empty(codes, count, skip) else {
-        let n = column::live_words(codes, count);
+    let Found::At(index) = column::first_other_empty(slots, count, skip) else {
+        let n = column::live_count(count);
         if skip == n {
             return n + 1;
         }
@@ -120,17 +114,17 @@ fn find_column_for_unallocated_node(
 
 // The node's column, where there is room for it: the one that holds its id, else another.
 pub fn find_column(
-    codes: &[u64],
+    slots: [Slot; COLUMN_LIMIT],
     count: usize,
     options: Options,
     previous_node_column: Found,
     existing: Found,
 ) -> Found
-    ensures { λ r. ⌜ r ≡ fitting (orElse existing (unallocated (viewWith (live count (slotsIn (now (codes .entry)))) «previous_node_column» options))) ⌝ }
+    ensures { λ r. ⌜ Finds (orElse existing (unallocated (viewWith (live count slots) «previous_node_column» options))) r ⌝ }
 {
     let Found::At(index) = existing else {
         return within_limit(find_column_for_unallocated_node(
-            codes,
+            slots,
             count,
             options,
             previous_node_column,
@@ -171,15 +165,13 @@ impl Shaper {
     {
         let slots = self.slots;
         let count = self.count;
-        let mut codes = [0u64; COLUMN_LIMIT];
-        column::write_codes(&mut codes, slots, count);
-        let Found::Nothing = column::find(&codes, count, node) else {
+        let Found::Nothing = column::find(slots, count, node) else {
             return Answer {
                 refusal: ACCEPTED,
                 shaper: self,
             };
         };
-        let index = column::vacant(&codes, count);
+        let index = column::vacant(slots, count);
         if COLUMN_LIMIT <= index {
             return Answer {
                 refusal: NO_COLUMN_LEFT,
