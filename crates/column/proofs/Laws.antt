@@ -6,7 +6,7 @@ use mathlib.Core.List.{List, [], _∷_, _++_, map}
 use native.Mathlib.Nat.{not-suc-le-zero, le-of-suc-le-suc}
 use native.Mathlib.Numerals.{add-one}
 use native.Mathlib.Omega.{arith}
-use lib.ListN.{length, getD, drop, set, length-set, drop-of-length-le, List·getD-eq-default}
+use lib.ListN.{length, getD, drop, set, replicate, length-set, drop-of-length-le, length-replicate, getD-replicate, List·getD-eq-default}
 use lib.Dec.{ltb, eqb}
 use lib.Seq.{drop-cons, lt-length-set, set-out, drop-set-lt, getD-drop, getD-set-same, getD-set-other}
 use borrow.Author.Tests.{ltb-true, ltb-false, eqb-true, eqb-false}
@@ -91,41 +91,33 @@ module _ (n : ℕ) (l : List Slot) (i : ℕ) where
   pub vacant-last : first isEmpty (live n l) ≡ Nothing → i ≡ min n (length l) → i ≡ vacant (live n l)
   vacant-last e h = rw (e, length-front columnOf n l) h
 
--- ---- a loop that rewrites each column in turn: f is still to be applied from place i on
-unfoldable pub mapFrom : (Column → Column) → ℕ → List Column → List Column
-mapFrom f i [] = []
-mapFrom f zero (c ∷ cs) = f c ∷ mapFrom f zero cs
-mapFrom f (suc i) (c ∷ cs) = c ∷ mapFrom f i cs
+-- ---- an array of Empty slots that is filled
+-- a loop that copies each column in turn from r
+copy-next : (l r : List Slot) (i : ℕ) (s : Slot) → i < length l → i < length r → s .column ≡ (getD r i emptySlot) .column → live i l ≡ live i r → live (i + 1) (set l i s) ≡ live (i + 1) r
+copy-next l r i s h k e q =
+    let o : length (live i l) ≤ i = rw length-front (omega arith) in
+    rw (add-one i, front-suc columnOf i (set l i s) emptySlot (lt-length-set l i s h), getD-set-same l i s emptySlot h, front-set columnOf i l i s, set-out (live i l) i (s .column) o, front-suc columnOf i r emptySlot k, e, q)
 
-module _ (f : Column → Column) where
-  pub mapFrom-all : (cs : List Column) → mapFrom f 0 cs ≡ map f cs
-  unfolding mapFrom
-  mapFrom-all [] = refl
-  mapFrom-all (c ∷ cs) = ap (λ (r : List Column). f c ∷ r) (mapFrom-all cs)
+-- slots of which the first i are filled, and the others Empty
+pub record Filled (r : List Slot) (i : ℕ) (l : List Slot) : Type 0 where
+  pub long : length l ≡ columnLimit
+  pub same : live i l ≡ live i r
+  pub spare : SpareEmpty i l
 
-  pub mapFrom-end : (cs : List Column) (i : ℕ) → length cs ≤ i → mapFrom f i cs ≡ cs
-  unfolding mapFrom
-  mapFrom-end [] i h = refl
-  mapFrom-end (c ∷ cs) zero h = absurd (not-suc-le-zero h)
-  mapFrom-end (c ∷ cs) (suc i) h = ap (λ (r : List Column). c ∷ r) (mapFrom-end cs i (le-of-suc-le-suc h))
+pub filled-start : (r l : List Slot) → l ≡ replicate columnLimit emptySlot → Filled r 0 l
+filled-start r l e = rw e (record { long = length-replicate columnLimit emptySlot; same = refl; spare = λ j h. go j (ltb j columnLimit) refl })
+  where
+    go : (j : ℕ) (b : Bool) → ltb j columnLimit ≡ b → (getD (replicate columnLimit emptySlot) j emptySlot) .column ≡ Empty
+    go j true q = rw (getD-replicate columnLimit j emptySlot emptySlot (ltb-true _ _ q))
+    go j false q = rw (List·getD-eq-default (replicate columnLimit emptySlot) emptySlot {n = j} (rw (length-replicate columnLimit emptySlot) (ltb-false _ _ q)))
 
-  mapFrom-set : (cs : List Column) (i : ℕ) (d : Column) → i < length cs → mapFrom f (suc i) (set cs i (f (getD cs i d))) ≡ mapFrom f i cs
-  unfolding mapFrom
-  mapFrom-set [] i d h = refl
-  mapFrom-set (c ∷ cs) zero d h = refl
-  mapFrom-set (c ∷ cs) (suc i) d h = ap (λ (r : List Column). c ∷ r) (mapFrom-set cs i d (le-of-suc-le-suc h))
-
-  -- what such a loop keeps, once i slots are done: e is what there is to do from there
-  module _ (count i : ℕ) (l : List Slot) (cs : List Column) (e : mapFrom f i (live count l) ≡ cs) where
-    -- slot i is stored at f of what it held
-    pub turning-next : (s : Slot) → i < count → i < length l → s .column ≡ f ((getD l i emptySlot) .column) → mapFrom f (i + 1) (live count (set l i s)) ≡ cs
-    turning-next s h k q =
-        rw (add-one, front-set columnOf, q, ← front-getD columnOf count l i emptySlot Empty h k)
-        (mapFrom-set (live count l) i Empty (rw length-front (omega arith)))
-        ∙ e
-
-    pub turning-end : min count (length l) ≤ i → live count l ≡ cs
-    turning-end h = sym (mapFrom-end (live count l) i (rw (length-front columnOf count l) h)) ∙ e
+pub filled-next : (r l : List Slot) (i : ℕ) (s : Slot) → i < columnLimit → i < length r → s .column ≡ (getD r i emptySlot) .column → Filled r i l → Filled r (i + 1) (set l i s)
+filled-next r l i s h k e f =
+    record {
+      long = length-set l i s ∙ f .long;
+      same = copy-next l r i s (rw (f .long) h) k e (f .same);
+      spare = λ j g. ap (λ (x : Slot). x .column) (getD-set-other l i j s emptySlot (λ z. omega arith)) ∙ f .spare j (omega arith);
+    }
 
 -- ---- trimming
 trim-empty : (cs : List Column) (c : Column) → isEmpty c ≡ true → trim (cs ++ (c ∷ [])) ≡ trim cs

@@ -1,2 +1,3 @@
 pub mod PlacingLaws
 pub mod SwapLaws
+pub mod EndLaws

@@ -1,166 +1,209 @@
--- What the walk and the swap give, in the words of the definitions in specs/Placing.antt.
-use Prim.Native.Nat.{ℕ, suc, _≤_, _<_}
+-- What the swap gives, on slots and on who draws, in the words of the definitions in specs/Placing.antt.
+use Prim.Native.Nat.{ℕ, zero, suc, _≤_, _<_}
 use mathlib.Core.Path.{_≡_, refl, ap, _∙_, sym}
-use mathlib.Core.Bool.{Bool, true, false, cond, not, _||_}
+use mathlib.Core.Bool.{Bool, true, false, cond, _&&_}
 use mathlib.Core.List.{List, [], _∷_}
 use native.Mathlib.Omega.{arith}
-use lib.Dec.{ltb, leb, eqb}
+use lib.Dec.{ltb, eqb}
 use lib.ListN.{length, getD, set, length-set}
 use lib.Seq.{getD-set-same, getD-set-other}
-use borrow.Author.Tests.{lt-ltb, le-ltb, lt-leb, leb-true, leb-false, eq-eqb, ne-eqb, eqb-true, eqb-false}
+use borrow.Author.Tests.{ltb-true, ne-eqb, eq-eqb, eqb-true, eqb-false}
 use Rattle.column.specs.declared.Column.{Column}
 use Rattle.column.specs.declared.Column.the-variants.{Empty}
+use Rattle.column.specs.declared.Found.{Found}
 use Rattle.column.specs.declared.Found.the-variants.{At, Nothing}
-use Rattle.column.specs.Columns.{columnLimit, isParent, orElse, merge, at, put, live, emptySlot, columnAt}
+use Rattle.column.specs.declared.Slot.{Slot}
+use Rattle.column.specs.Columns.{columnLimit, orElse, merge, at, put, live, emptySlot}
 use Rattle.column.proofs.Front.{length-front, front-set}
 use Rattle.column.proofs.Laws.{columnOf as slotColumn, live-at, put-set}
-use Rattle.column.proofs.Positions.{at-put-other, length-put, at-live}
+use Rattle.column.proofs.Positions.{at-put-other, length-put}
 use Rattle.render.specs.declared.render.Ancestor.{Ancestor as Entry}
-use Rattle.links.specs.declared.Met.the-variants.{Nobody, By}
+use Rattle.render.specs.declared.render.Ancestor.the-variants.{Ancestor as Indirect, Parent as Direct, Anonymous}
+use Rattle.links.specs.declared.Drawn.the-variants as drawn
+use Rattle.links.specs.declared.ParentColumn.{ParentColumn}
 use Rattle.links.specs.Links.{isAt}
-use Rattle.links.specs.Inner.{ParentColumn}
-use Rattle.placing.specs.Placing.{columnOf, spot, enter, walk, metBy, gaveUp, swap, swapped, drawsAt}
-use Rattle.placing.specs.Inner.{Columns, columnsOf, nobody, metAt, Went, Walks, Settled, settled}
+use Rattle.links.specs.Inner.{nobody, kindAt}
+use Rattle.placing.specs.Placing.{columnOf, parentColumn, enter, walk, gaveUp, swap, swapped, Met, Nobody, By, kindOf, metBy, drawsAt}
+use Rattle.placing.proofs.PlacingLaws.{walk-more, Gone}
 
--- what settling gives, in the words of the definitions
-pub record Settles (es : List Entry) (c : ℕ) (bs : List Column) (count : ℕ) (r : Settled) : Type 0 where
-  pub up : r .swap .«given_up» ≡ gaveUp c es bs
-  pub direct : r .swap .«was_direct» ≡ isParent (at bs (orElse (gaveUp c es bs) c))
-  pub columns : live count (r .slots) ≡ swapped (gaveUp c es bs) c (walk c es bs)
-  pub draws : (i : ℕ) → metAt (r .parents) i ≡ drawsAt (gaveUp c es bs) c es bs i
-  pub wide : length (r .parents) ≡ columnLimit
-  pub long : length (r .slots) ≡ columnLimit
+-- a value stored where it stands changes nothing, twice
+set-back : {A : Type 0} (l : List A) (i : ℕ) (d : A) → set (set l i (getD l i d)) i (getD l i d) ≡ l
+set-back [] i d = refl
+set-back (x ∷ l) zero d = refl
+set-back {A} (x ∷ l) (suc i) d = ap (λ (r : List A). x ∷ r) (set-back l i d)
 
-module _ (c : ℕ) (bs : List Column) (bare : Columns) (b-is : columnsOf bare ≡ bs) (empty : at bs c ≡ Empty) (long : length (bare .slots) ≡ columnLimit) (w : Went)
-    (fit : w .fits ≡ true) where
-  -- no swap
-  stays : (es : List Entry) → Walks bare c es w → (single : Bool) → gaveUp c es bs ≡ Nothing → (not single || (leb (w .spot) c || leb columnLimit (w .spot))) ≡ true
-      → Settles es c bs (w .count) (settled (w .slots) (w .parents) (w .spot) bare c single)
-  stays es p single g h =
-      rw h
-      (record {
-        up = sym g;
-        direct = rw (g, empty);
-        columns = rw g (rw b-is at (p .columns fit));
-        draws = λ i. rw g (rw b-is at (p .met fit i));
-        wide = p .wide;
-        long = p .long;
-      })
+-- the column given up, if any, is one of those after the walk
+up-inside : (c : ℕ) (es : List Entry) (bs : List Column) → c < length bs → orElse (gaveUp c es bs) c < length (walk c es bs)
+up-inside c [] bs h = h
+up-inside c (e ∷ []) bs h = go (ltb c (parentColumn c e bs))
+  where
+    k : ℕ
+    k = parentColumn c e bs
 
-  module _ (e : Entry) (p : Walks bare c (e ∷ []) w) (far : c < w .spot) where
-    abbrev k : ℕ
-    k = w .spot
+    l : length (enter c e bs) ≡ length (put bs k (merge (at bs k) (columnOf e)))
+    l = refl
 
-    abbrev ws : List Column
-    ws = walk c (e ∷ []) bs
+    go : (b : Bool) → orElse (cond b (At k) Nothing) c < length (enter c e bs)
+    go true = omega (arith, length-put bs k (merge (at bs k) (columnOf e)))
+    go false = omega (arith, length-put bs k (merge (at bs k) (columnOf e)))
+up-inside c (e ∷ f ∷ es) bs h = omega (arith, walk-more c (e ∷ f ∷ es) bs)
 
-    k-is : k ≡ spot c e bs
-    k-is = rw b-is at (p .last fit)
+-- the row's single entry, by the code's test
+pub gave-up : (c : ℕ) (es : List Entry) (bs : List Column) (n last : ℕ) (r : Found) → n ≡ length es
+    → ((e : Entry) → es ≡ e ∷ [] → last ≡ parentColumn c e bs) → r ≡ cond (eqb n 1 && ltb c last) (At last) Nothing → r ≡ gaveUp c es bs
+gave-up c [] bs n last r e k q = rw e at q
+gave-up c (a ∷ []) bs n last r e k q = q ∙ rw (e, k a refl)
+gave-up c (a ∷ b ∷ es) bs n last r e k q = q ∙ rw (e, ne-eqb (suc (suc (length es))) 1 (λ z. omega arith))
 
-    live-is : live (w .count) (w .slots) ≡ ws
-    live-is = rw b-is at (p .columns fit)
+module _ (bs : List Column) (c : ℕ) (es : List Entry) (slots : List Slot) (count : ℕ) (parents : List ParentColumn) (last : ℕ) (said : Bool)
+    (g : Gone bs c es slots count parents last said) (inside : c < length bs) where
+  abbrev up : Found
+  up = gaveUp c es bs
 
-    up-is : gaveUp c (e ∷ []) bs ≡ At k
-    up-is = rw (← k-is, lt-ltb c k far)
+  abbrev ws : List Column
+  ws = walk c es bs
 
-    below : k < length ws
-    below = omega (arith, length-put bs (spot c e bs) (merge (at bs (spot c e bs)) (columnOf e)), k-is)
+  -- the column that changes places with the node's: the one given up, else its own
+  abbrev other : ℕ
+  other = orElse up c
 
-    count-below : k < w .count
-    count-below =
-        let z : length (live (w .count) (w .slots)) ≡ length ws = ap length live-is in
-        omega (arith, length-front slotColumn (w .count) (w .slots), below)
+  count-is : count ≡ length ws
+  count-is =
+      let z : length (live count slots) ≡ length ws = ap length (g .columns) in
+      omega (arith, length-front slotColumn count slots, g .long, g .fits)
 
-    slot-at : (i : ℕ) → i ≤ k → (getD (w .slots) i emptySlot) .column ≡ at ws i
-    slot-at i h =
-        let l : i < length (w .slots) = omega (arith, p .long, p .within) in
-        let m : i < w .count = omega (arith, count-below) in
-        sym (live-at (w .count) (w .slots) i m l) ∙ ap (λ (x : List Column). at x i) live-is
+  pub other-inside : other < length ws
+  other-inside = up-inside c es bs inside
 
-    moved : live (w .count) (set (set (w .slots) c (getD (w .slots) k emptySlot)) k (getD (w .slots) c emptySlot)) ≡ swap c k ws
-    moved =
-        front-set slotColumn (w .count) (set (w .slots) c (getD (w .slots) k emptySlot)) k (getD (w .slots) c emptySlot)
-        ∙ ap (λ (x : List Column). set x k ((getD (w .slots) c emptySlot) .column)) (front-set slotColumn (w .count) (w .slots) c (getD (w .slots) k emptySlot))
-        ∙ rw (live-is, slot-at k (omega arith), slot-at c (omega arith))
-        (sym (put-set (set ws c (at ws k)) k (at ws c) (rw (length-set ws c (at ws k)) below))
-        ∙ ap (λ (x : List Column). put x k (at ws c)) (sym (put-set ws c (at ws k) (omega (arith, below)))))
+  node-inside : c < length ws
+  node-inside = omega (arith, walk-more c es bs)
 
-    met-is : (i : ℕ) → metAt (w .parents) i ≡ cond (eqb i k) (By e) Nobody
-    met-is i = rw (← k-is) at (rw b-is at (p .met fit i))
+  pub width-is : count ≡ length ws
+  width-is = count-is
 
-    drawn : (i : ℕ) → metAt (set (set (w .parents) k nobody) c (getD (w .parents) k nobody)) i ≡ cond (eqb i c) (By e) Nobody
-    drawn i = go (eqb i c) refl (eqb i k) refl
-      where
-        go : (t : Bool) → eqb i c ≡ t → (u : Bool) → eqb i k ≡ u → metAt (set (set (w .parents) k nobody) c (getD (w .parents) k nobody)) i ≡ cond t (By e) Nobody
-        go true q u r =
-            let l : c < length (set (w .parents) k nobody) = rw (length-set (w .parents) k nobody, p .wide) (omega (arith, p .within)) in
-            ap (λ (x : ParentColumn). x .met) (rw (eqb-true i c q) (getD-set-same (set (w .parents) k nobody) c (getD (w .parents) k nobody) nobody l))
-            ∙ met-is k
-            ∙ rw (eq-eqb k k refl)
-        go false q true r =
-            let l : k < length (w .parents) = rw (p .wide) (p .within) in
-            ap (λ (x : ParentColumn). x .met) (getD-set-other (set (w .parents) k nobody) c i (getD (w .parents) k nobody) nobody (eqb-false i c q))
-            ∙ ap (λ (x : ParentColumn). x .met) (rw (eqb-true i k r) (getD-set-same (w .parents) k nobody nobody l))
-        go false q false r =
-            ap (λ (x : ParentColumn). x .met) (getD-set-other (set (w .parents) k nobody) c i (getD (w .parents) k nobody) nobody (eqb-false i c q))
-            ∙ ap (λ (x : ParentColumn). x .met) (getD-set-other (w .parents) k i nobody nobody (eqb-false i k r))
-            ∙ met-is i
-            ∙ rw r
+  last-of : (e : Entry) → es ≡ e ∷ [] → last ≡ parentColumn c e bs
+  last-of e q = rw q at (g .last-is)
 
-    was : isParent (columnAt (getD (bare .slots) k emptySlot) k (bare .count)) ≡ isParent (at bs k)
-    was = ap isParent (sym (at-live (bare .count) (bare .slots) k (rw long (p .within))) ∙ ap (λ (x : List Column). at x k) b-is)
+  pub up-is : (n : ℕ) (r : Found) → n ≡ length es → r ≡ cond (eqb n 1 && ltb c last) (At last) Nothing → r ≡ up
+  up-is n r e q = gave-up c es bs n last r e last-of q
 
-    moves : Settles (e ∷ []) c bs (w .count) (settled (w .slots) (w .parents) (w .spot) bare c true)
-    moves =
-        rw (lt-leb k c far, lt-leb columnLimit k (p .within))
-        (record {
-          up = sym up-is;
-          direct = rw up-is was;
-          columns = rw up-is moved;
-          draws = λ i. rw (up-is, ← k-is, eq-eqb k k refl) (drawn i);
-          wide = length-set (set (w .parents) k nobody) c _ ∙ length-set (w .parents) k nobody ∙ p .wide;
-          long = length-set (set (w .slots) c _) k _ ∙ length-set (w .slots) c _ ∙ p .long;
-        })
+  slot-at : (i : ℕ) → i < length ws → (getD slots i emptySlot) .column ≡ at ws i
+  slot-at i h = sym (live-at count slots i (omega (arith, count-is)) (omega (arith, count-is, g .long, g .fits))) ∙ ap (λ (x : List Column). at x i) (g .columns)
 
-  settles-one : (e : Entry) → Walks bare c (e ∷ []) w → (t : Bool) → leb (w .spot) c ≡ t → Settles (e ∷ []) c bs (w .count) (settled (w .slots) (w .parents) (w .spot) bare c true)
-  settles-one e p true q =
-      let k-is : w .spot ≡ spot c e bs = rw b-is at (p .last fit) in
-      let h : spot c e bs ≤ c = omega (arith, leb-true (w .spot) c q) in
-      stays (e ∷ []) p true (rw (le-ltb c (spot c e bs) h)) (rw q)
-  settles-one e p false q = moves e p (leb-false (w .spot) c q)
+  -- the slots after two stores
+  abbrev pub moved : List Slot
+  moved = set (set slots c (getD slots other emptySlot)) other (getD slots c emptySlot)
 
-  pub settles : (es : List Entry) → Walks bare c es w → (single : Bool) → single ≡ eqb (length es) 1 → Settles es c bs (w .count) (settled (w .slots) (w .parents) (w .spot) bare c single)
-  settles [] p single q = stays [] p single refl (rw q)
-  settles (e ∷ []) p single q = rw q (settles-one e p (leb (w .spot) c) refl)
-  settles (e ∷ f ∷ es) p single q = stays (e ∷ f ∷ es) p single refl (rw (q, ne-eqb (suc (suc (length es))) 1 (λ z. omega arith)))
+  pub moved-long : length moved ≡ columnLimit
+  moved-long = length-set (set slots c (getD slots other emptySlot)) other (getD slots c emptySlot) ∙ length-set slots c (getD slots other emptySlot) ∙ g .long
+
+  stored : live count moved ≡ set (set ws c (at ws other)) other (at ws c)
+  stored =
+      front-set slotColumn count (set slots c (getD slots other emptySlot)) other (getD slots c emptySlot)
+      ∙ ap (λ (x : List Column). set x other ((getD slots c emptySlot) .column)) (front-set slotColumn count slots c (getD slots other emptySlot))
+      ∙ rw (g .columns, slot-at other other-inside, slot-at c node-inside)
+
+  swapped-by : (f : Found) → orElse f c < length ws → set (set ws c (at ws (orElse f c))) (orElse f c) (at ws c) ≡ swapped f c ws
+  swapped-by Nothing h = set-back ws c Empty
+  swapped-by (At p) h =
+      sym (put-set (set ws c (at ws p)) p (at ws c) (rw (length-set ws c (at ws p)) h))
+      ∙ ap (λ (x : List Column). put x p (at ws c)) (sym (put-set ws c (at ws p) node-inside))
+
+  pub moved-is : live count moved ≡ swapped up c ws
+  moved-is = stored ∙ swapped-by up other-inside
+
+  -- who draws after two stores
+  abbrev pub redrawn : List ParentColumn
+  redrawn = set (set parents other nobody) c (getD parents other nobody)
+
+  pub redrawn-long : length redrawn ≡ columnLimit
+  redrawn-long = length-set (set parents other nobody) c (getD parents other nobody) ∙ length-set parents other nobody ∙ g .wide
+
+  node-there : c < length (set parents other nobody)
+  node-there = rw (length-set parents other nobody, g .wide) (omega (arith, node-inside, count-is, g .fits))
+
+  other-there : other < length parents
+  other-there = rw (g .wide) (omega (arith, other-inside, count-is, g .fits))
+
+  -- in the node's column, in the other one, in any other
+  drawn-here : kindAt redrawn c ≡ kindAt parents other
+  drawn-here = ap (λ (x : ParentColumn). x .drawn) (getD-set-same (set parents other nobody) c (getD parents other nobody) nobody node-there)
+
+  drawn-there : (i : ℕ) → eqb i c ≡ false → eqb i other ≡ true → kindAt redrawn i ≡ drawn.Nobody
+  drawn-there i q r =
+      ap (λ (x : ParentColumn). x .drawn) (getD-set-other (set parents other nobody) c i (getD parents other nobody) nobody (eqb-false i c q))
+      ∙ ap (λ (x : ParentColumn). x .drawn) (rw (eqb-true i other r) (getD-set-same parents other nobody nobody other-there))
+
+  drawn-else : (i : ℕ) → eqb i c ≡ false → eqb i other ≡ false → kindAt redrawn i ≡ kindAt parents i
+  drawn-else i q r =
+      ap (λ (x : ParentColumn). x .drawn) (getD-set-other (set parents other nobody) c i (getD parents other nobody) nobody (eqb-false i c q))
+      ∙ ap (λ (x : ParentColumn). x .drawn) (getD-set-other parents other i nobody nobody (eqb-false i other r))
+
+  -- only a single entry gives a column up, and then it alone draws
+  single : (p : ℕ) → up ≡ At p → (i : ℕ) → eqb i p ≡ false → metBy i c es bs Nobody ≡ Nobody
+  single p q i r = alone es q
+    where
+      one : (e : Entry) (b : Bool) → cond b (At (parentColumn c e bs)) Nothing ≡ At p → parentColumn c e bs ≡ p
+      one e true z = cc
+      one e false z = let y : _≡_ {A = ℕ} 0 1 = cc in absurd (omega arith)
+
+      alone : (xs : List Entry) → gaveUp c xs bs ≡ At p → metBy i c xs bs Nobody ≡ Nobody
+      alone [] z = refl
+      alone (e ∷ []) z = rw (one e (ltb c (parentColumn c e bs)) z, r)
+      alone (e ∷ f ∷ xs) z = let y : _≡_ {A = ℕ} 0 1 = cc in absurd (omega arith)
+
+  pub redrawn-is : (i : ℕ) → kindAt redrawn i ≡ kindOf (drawsAt up c es bs i)
+  redrawn-is i = go up refl (eqb i c) refl (eqb i other) refl
+    where
+      go : (f : Found) → up ≡ f → (a : Bool) → eqb i c ≡ a → (b : Bool) → eqb i other ≡ b → kindAt redrawn i ≡ kindOf (drawsAt f c es bs i)
+      go Nothing u true q b r =
+          let e : i ≡ c = eqb-true i c q in
+          let o : other ≡ c = rw u in
+          rw e (drawn-here ∙ rw o (g .kinds c))
+      go Nothing u false q true r =
+          let o : other ≡ c = rw u in
+          let z : eqb i c ≡ true = rw o at r in
+          let y : _≡_ {A = Bool} true false = sym z ∙ q in
+          let t : _≡_ {A = ℕ} 0 1 = cc in
+          absurd (omega arith)
+      go Nothing u false q false r = drawn-else i q r ∙ g .kinds i
+      go (At p) u true q b r =
+          let e : i ≡ c = eqb-true i c q in
+          let o : other ≡ p = rw u in
+          rw (q, e) (drawn-here ∙ rw o (g .kinds p))
+      go (At p) u false q true r = rw q (drawn-there i q r)
+      go (At p) u false q false r =
+          let w : other ≡ p = rw u in
+          let o : eqb i p ≡ false = rw w at r in
+          rw q (drawn-else i q r ∙ g .kinds i ∙ ap kindOf (single p u i o))
 
 -- ---- columns in which nothing of the row ends
 
 some-draws : (i c : ℕ) (es : List Entry) (cs : List Column) (e : Entry) → metBy i c es cs (By e) ≡ Nobody → ⊥
 some-draws i c [] cs e h = let z : _≡_ {A = ℕ} 0 1 = cc in omega arith
-some-draws i c (f ∷ es) cs e h = go (eqb i (spot c f cs)) refl (some-draws i c es (enter c f cs))
+some-draws i c (f ∷ es) cs e h = go (eqb i (parentColumn c f cs)) refl (some-draws i c es (enter c f cs))
   where
-    go : (b : Bool) → eqb i (spot c f cs) ≡ b → ((g : Entry) → metBy i c es (enter c f cs) (By g) ≡ Nobody → ⊥) → ⊥
+    go : (b : Bool) → eqb i (parentColumn c f cs) ≡ b → ((g : Entry) → metBy i c es (enter c f cs) (By g) ≡ Nobody → ⊥) → ⊥
     go true q r = r f (rw q at h)
     go false q r = r e (rw q at h)
 
 -- a column that no entry met is as it was
 walk-kept : (i c : ℕ) (es : List Entry) (cs : List Column) → metBy i c es cs Nobody ≡ Nobody → at cs i ≡ at (walk c es cs) i
 walk-kept i c [] cs h = refl
-walk-kept i c (e ∷ es) cs h = go (eqb i (spot c e cs)) refl (walk-kept i c es (enter c e cs))
+walk-kept i c (e ∷ es) cs h = go (eqb i (parentColumn c e cs)) refl (walk-kept i c es (enter c e cs))
   where
-    go : (b : Bool) → eqb i (spot c e cs) ≡ b → (metBy i c es (enter c e cs) Nobody ≡ Nobody → at (enter c e cs) i ≡ at (walk c es (enter c e cs)) i) → at cs i ≡ at (walk c es (enter c e cs)) i
+    go : (b : Bool) → eqb i (parentColumn c e cs) ≡ b → (metBy i c es (enter c e cs) Nobody ≡ Nobody → at (enter c e cs) i ≡ at (walk c es (enter c e cs)) i) → at cs i ≡ at (walk c es (enter c e cs)) i
     go true q r = absurd (some-draws i c es (enter c e cs) e (rw q at h))
-    go false q r = sym (at-put-other cs (spot c e cs) (merge (at cs (spot c e cs)) (columnOf e)) i (eqb-false i (spot c e cs) q)) ∙ r (rw q at h)
+    go false q r = sym (at-put-other cs (parentColumn c e cs) (merge (at cs (parentColumn c e cs)) (columnOf e)) i (eqb-false i (parentColumn c e cs) q)) ∙ r (rw q at h)
 
 -- neither the entries nor the swap change a column in which nobody draws, but for the node's and the one given up
 pub settled-kept : (i c : ℕ) (es : List Entry) (cs : List Column) → drawsAt (gaveUp c es cs) c es cs i ≡ Nobody → eqb i c ≡ false → isAt (gaveUp c es cs) i ≡ false
     → at cs i ≡ at (swapped (gaveUp c es cs) c (walk c es cs)) i
 settled-kept i c [] cs d n g = refl
-settled-kept i c (e ∷ []) cs d n g = go (ltb c (spot c e cs)) refl
+settled-kept i c (e ∷ []) cs d n g = go (ltb c (parentColumn c e cs)) refl
   where
     k : ℕ
-    k = spot c e cs
+    k = parentColumn c e cs
 
     ws : List Column
     ws = enter c e cs
@@ -173,7 +216,13 @@ settled-kept i c (e ∷ []) cs d n g = go (ltb c (spot c e cs)) refl
     go false q = walk-kept i c (e ∷ []) cs (rw q at d)
 settled-kept i c (e ∷ f ∷ es) cs d n g = walk-kept i c (e ∷ f ∷ es) cs d
 
-pub settles-kept : (es : List Entry) (c : ℕ) (bs : List Column) (count : ℕ) (r : Settled) → Settles es c bs count r
-    → (i : ℕ) → metAt (r .parents) i ≡ Nobody → eqb i c ≡ false → isAt (r .swap .«given_up») i ≡ false → at bs i ≡ at (live count (r .slots)) i
-settles-kept es c bs count r s i d n g =
-    settled-kept i c es bs (sym (s .draws i) ∙ d) n (rw (s .up) at g) ∙ ap (λ (x : List Column). at x i) (sym (s .columns))
+nobody-draws : (m : Met) → kindOf m ≡ drawn.Nobody → m ≡ Nobody
+nobody-draws Nobody h = refl
+nobody-draws (By (Indirect n)) h = let z : _≡_ {A = ℕ} 0 1 = cc in absurd (omega arith)
+nobody-draws (By (Direct n)) h = let z : _≡_ {A = ℕ} 0 1 = cc in absurd (omega arith)
+nobody-draws (By Anonymous) h = let z : _≡_ {A = ℕ} 0 1 = cc in absurd (omega arith)
+
+-- the same by the kind of who draws
+pub kind-kept : (i c : ℕ) (es : List Entry) (cs : List Column) → kindOf (drawsAt (gaveUp c es cs) c es cs i) ≡ drawn.Nobody → eqb i c ≡ false → isAt (gaveUp c es cs) i ≡ false
+    → at cs i ≡ at (swapped (gaveUp c es cs) c (walk c es cs)) i
+kind-kept i c es cs d n h = settled-kept i c es cs (nobody-draws _ d) n h

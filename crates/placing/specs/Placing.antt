@@ -15,8 +15,9 @@ use Rattle.render.specs.declared.types.DashStyle.{DashStyle}
 use Rattle.render.specs.declared.types.DashStyle.the-variants.{Persistent, Once}
 use Rattle.shaper.specs.Shaper.{View}
 use Rattle.shaper.specs.NodeColumn.{nodeColumn}
-use Rattle.links.specs.declared.Met.{Met}
-use Rattle.links.specs.declared.Met.the-variants.{Nobody, By}
+use Rattle.links.specs.declared.Drawn.{Drawn}
+use Rattle.links.specs.declared.Drawn.the-variants as drawn
+use Rattle.links.specs.Links.{drawnBy}
 
 -- ---- the entries
 
@@ -33,12 +34,12 @@ heldBy (Direct n) cs = find n cs
 heldBy Anonymous cs = Nothing
 
 -- "a held id merges into its column; any other entry merges into `find_empty` of the node's column, else takes a new last column"
-abbrev pub spot : ℕ → Entry → List Column → ℕ
-spot c e cs = orElse (heldBy e cs) (orElse (findEmpty c cs) (length cs))
+abbrev pub parentColumn : ℕ → Entry → List Column → ℕ
+parentColumn c e cs = orElse (heldBy e cs) (orElse (findEmpty c cs) (length cs))
 
 -- the columns after an entry "merges into its column", its id's or another
 abbrev pub enter : ℕ → Entry → List Column → List Column
-enter c e cs = put cs (spot c e cs) (merge (at cs (spot c e cs)) (columnOf e))
+enter c e cs = put cs (parentColumn c e cs) (merge (at cs (parentColumn c e cs)) (columnOf e))
 
 -- "entries go in order"
 abbrev pub walk : ℕ → List Entry → List Column → List Column
@@ -52,7 +53,7 @@ swap i j cs = put (put cs i (at cs j)) j (at cs i)
 -- the column that a single entry gives up: "A single entry whose column lies right of the node swaps columns with it."
 abbrev pub gaveUp : ℕ → List Entry → List Column → Found
 gaveUp c [] cs = Nothing
-gaveUp c (e ∷ []) cs = cond (ltb c (spot c e cs)) (At (spot c e cs)) Nothing
+gaveUp c (e ∷ []) cs = cond (ltb c (parentColumn c e cs)) (At (parentColumn c e cs)) Nothing
 gaveUp c (e ∷ f ∷ es) cs = Nothing
 
 -- the columns after the swap: "swaps columns with it"
@@ -87,10 +88,20 @@ dashed Once cs = map direct cs
 
 -- ---- who draws in a column
 
+-- who draws: the last entry that met the column, or nobody
+pub data Met : Type 0 where
+  Nobody : Met
+  By : Entry → Met
+
+-- the kind of who draws, which is all that the cells show of it
+abbrev pub kindOf : Met → Drawn
+kindOf Nobody = drawn.Nobody
+kindOf (By e) = drawnBy e
+
 -- the last entry that meets column i, else m: "For a column met twice the later entry draws the link."
 abbrev pub metBy : ℕ → ℕ → List Entry → List Column → Met → Met
 metBy i c [] cs m = m
-metBy i c (e ∷ es) cs m = metBy i c es (enter c e cs) (cond (eqb i (spot c e cs)) (By e) m)
+metBy i c (e ∷ es) cs m = metBy i c es (enter c e cs) (cond (eqb i (parentColumn c e cs)) (By e) m)
 
 -- who draws in column i: after a swap the entry that met the column given up draws in the node's (`next_row_shape`)
 abbrev pub drawsAt : Found → ℕ → List Entry → List Column → ℕ → Met

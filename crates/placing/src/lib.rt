@@ -1,30 +1,22 @@
-// Where a row's node and its entries go, after graph_to_row_shape.rs.
+// Where a row's entries go, and what ends a row, after graph_to_row_shape.rs. The row call walks the entries.
 ghost use mathlib.Core.Path.{_≡_};
-ghost use Prim.Native.Nat.{_<_, min};
-ghost use lib.Dec.{eqb};
-ghost use lib.ListN.{length, getD, set, replicate};
-ghost use Rattle.column.specs.Columns.{columnLimit, isParent, live};
-ghost use Rattle.column.specs.Codes.{slotIn, slotsIn};
-ghost use Rattle.links.specs.Inner.{parentIn, parentsIn};
-ghost use Rattle.links.specs.declared.Met.the-variants.{By};
-ghost use Rattle.render.specs.Entries.{entryLimit, listed};
-ghost use Rattle.placing.specs.Placing.{columnOf, heldBy, spot as spotOf};
-ghost use Rattle.placing.specs.Inner.{Opens, entered as enteredOf, wentOf, Walks, settled as settledOf};
+ghost use mathlib.Core.Bool.{cond, _&&_};
+ghost use Prim.Native.Nat.{min};
+ghost use lib.Dec.{ltb, eqb};
+ghost use Rattle.column.specs.Columns.{live, orElse};
+ghost use Rattle.placing.specs.Placing.{columnOf, heldBy, parentColumn};
+ghost use Rattle.placing.specs.Inner.{holdsEntry, entered as enteredOf, columnBefore, endedColumn, Ends};
 use column::COLUMN_LIMIT;
 use column::Column;
 use column::Found;
-use links::Swap;
+use column::Slot;
 use render::Ancestor;
-use render::ENTRY_LIMIT;
-use render::Entries;
+use render::DashStyle;
 
-// What the walk over the entries gives beside the columns and who draws in each: whether they fit, how many there are, the last entry's
-// column, and whether an entry is Anonymous.
-pub struct Walked {
-    pub fits: bool,
+// Slots and their count.
+pub struct Columns {
+    pub slots: [Slot; COLUMN_LIMIT],
     pub count: usize,
-    pub spot: usize,
-    pub anonymous: bool,
 }
 
 // The column that an entry merges as.
@@ -38,180 +30,138 @@ fn ancestor_to_column(ancestor: Ancestor) -> Column
     }
 }
 
-// The column that holds an entry's id.
-pub fn held_by(codes: &[u64], count: usize, ancestor: Ancestor) -> Found
-    ensures { λ r. ⌜ r ≡ heldBy ancestor (live count (slotsIn (now (codes .entry)))) ⌝ }
+// Whether a column holds an entry's id.
+fn holds_entry(column: Column, ancestor: Ancestor) -> bool
+    ensures { λ r. ⌜ r ≡ holdsEntry ancestor column ⌝ }
 {
     match ancestor {
-        Ancestor::Ancestor(node) => column::find(codes, count, node),
-        Ancestor::Parent(node) => column::find(codes, count, node),
+        Ancestor::Ancestor(node) => column.matches(node),
+        Ancestor::Parent(node) => column.matches(node),
+        Ancestor::Anonymous => false,
+    }
+}
+
+// The column that holds an entry's id.
+pub fn held_by(slots: [Slot; COLUMN_LIMIT], count: usize, ancestor: Ancestor) -> Found
+    ensures { λ r. ⌜ r ≡ heldBy ancestor (live count slots) ⌝ }
+{
+    match ancestor {
+        Ancestor::Ancestor(node) => column::find(slots, count, node),
+        Ancestor::Parent(node) => column::find(slots, count, node),
         Ancestor::Anonymous => Found::Nothing,
     }
 }
 
-// The column that an entry merges into: its id's, else an Empty one, else a new last one.
-fn entry_column(codes: &[u64], count: usize, column: usize, ancestor: Ancestor) -> usize
-    ensures { λ r. ⌜ r ≡ spotOf column ancestor (live count (slotsIn (now (codes .entry)))) ⌝ }
+// The column that an entry merges into: its id's, else an Empty one, the node's if it can be, else a new last one. The search for the id
+// stands here and not in a call of `held_by`, which would copy the slots once more for each entry.
+pub fn parent_column(
+    slots: [Slot; COLUMN_LIMIT],
+    count: usize,
+    column: usize,
+    ancestor: Ancestor,
+) -> usize
+    ensures { λ r. ⌜ r ≡ parentColumn column ancestor (live count slots) ⌝ }
 {
-    if let Found::At(index) = held_by(codes, count, ancestor) {
-        return index;
+    let n = column::live_count(count);
+    let mut i: usize = 0;
+    while i < n {
+        let slot = slots[i];
+        let held = slot.column;
+        if holds_entry(held, ancestor) {
+            return i;
+        }
+        i += 1;
     }
-    let Found::At(index) = column::find_empty(codes, count, column) else {
-        return column::live_words(codes, count);
+    let Found::At(index) = column::find_empty(slots, count, column) else {
+        return n;
     };
     index
 }
 
-// Column `index` Empty; where there is no such column nothing changes.
-fn clear(codes: &mut [u64], index: usize)
-    ensures { λ r. ⌜ now (codes .exit) ≡ set (now (codes .entry)) index 0 ⌝ }
+// The slot of a column after an entry merged into it.
+pub fn entered(slot: Slot, index: usize, count: usize, ancestor: Ancestor) -> Slot
+    ensures { λ r. ⌜ r ≡ enteredOf slot index count ancestor ⌝ }
 {
-    if codes.len() <= index {
-        return;
-    }
-    codes[index] = 0;
-}
-
-// Makes the node's column Empty; a placeholder before a new last one is Empty too. Gives the count of columns then.
-pub fn open(codes: &mut [u64; COLUMN_LIMIT], count: usize, column: usize) -> usize
-    ensures { λ r. ⌜ Opens (slotsIn (now (codes .entry))) count column (record { slots = slotsIn (now (codes .exit)); count = r }) ⌝ }
-{
-    let n = column::live_words(codes, count);
-    clear(codes, n);
-    clear(codes, column);
-    column::count_with(count, column)
-}
-
-// The word of a column after an entry merged into it.
-fn entered(code: u64, index: usize, count: usize, ancestor: Ancestor) -> u64
-    ensures { λ r. ⌜ slotIn r ≡ enteredOf (slotIn code) index count ancestor ⌝ }
-{
-    let old = column::column_at(code, index, count);
+    let old = slot.column_at(index, count);
     let new = ancestor_to_column(ancestor);
     let column = old.merge(new);
-    column.code()
+    slot.with_column(column)
 }
 
-// The word of who draws: of the column that the entry merges as.
-fn drawn(ancestor: Ancestor) -> u64
-    ensures { λ r. ⌜ parentIn r ≡ record { met = By ancestor } ⌝ }
+// Where a placeholder stands before a new last column, else the node's own column.
+pub fn placeholder(count: usize, column: usize) -> usize
+    ensures { λ r. ⌜ r ≡ min count column ⌝ }
 {
-    let column = ancestor_to_column(ancestor);
-    column.code()
+    if count < column { count } else { column }
 }
 
-// How many entries an array of them has: a count above 32 is read as 32.
-fn entry_count(count: usize) -> usize
-    ensures { λ r. ⌜ r ≡ min count entryLimit ⌝ }
+// What stood in a column before the entries, where `count` were live: the node's own is Empty then, as is one past the count.
+pub fn column_before(slot: Slot, index: usize, count: usize, column: usize) -> Column
+    ensures { λ r. ⌜ r ≡ columnBefore slot index count column ⌝ }
 {
-    if ENTRY_LIMIT < count {
-        ENTRY_LIMIT
-    } else {
-        count
+    if (index < count) & (index != column) {
+        return slot.column;
+    }
+    Column::Empty
+}
+
+// The column that a single entry gives up: one whose column lies right of the node swaps columns with it.
+pub fn given_up(entries: usize, parent_column: usize, column: usize) -> Found
+    ensures { λ r. ⌜ r ≡ cond (eqb entries 1 && ltb column «parent_column») (Found.At «parent_column») Found.Nothing ⌝ }
+{
+    if (entries == 1) & (column < parent_column) {
+        return Found::At(parent_column);
+    }
+    Found::Nothing
+}
+
+// The column that was found, else another.
+pub fn or_else(found: Found, column: usize) -> usize
+    ensures { λ r. ⌜ r ≡ orElse found column ⌝ }
+{
+    match found {
+        Found::At(index) => index,
+        Found::Nothing => column,
     }
 }
 
-// Nobody draws in any column.
-fn clear_all(parents: &mut [u64])
-    ensures { λ r. ⌜ now (parents .exit) ≡ replicate (length (now (parents .entry))) 0 ⌝ }
+// What a column is after a row: with Once dashes Ancestor turns Parent; Blocked becomes Empty.
+fn ended_column(column: Column, dash_style: DashStyle) -> Column
+    ensures { λ r. ⌜ r ≡ endedColumn «dash_style» column ⌝ }
 {
+    match dash_style {
+        DashStyle::Persistent => column.reset(),
+        DashStyle::Once => {
+            let turned = column.convert_ancestor_to_parent();
+            turned.reset()
+        }
+    }
+}
+
+// What ends a row: every column as it is after it, then Empty columns at the end go. The slots past the count are Empty.
+pub fn ended(given: [Slot; COLUMN_LIMIT], count: usize, dash_style: DashStyle) -> Columns
+    ensures { λ r. ⌜ Ends given count «dash_style» r ⌝ }
+{
+    let n = column::live_count(count);
+    let empty = Slot::empty();
+    let mut slots = [empty; COLUMN_LIMIT];
     let mut at: usize = 0;
-    while at < parents.len() {
-        parents[at] = 0;
+    while at < n {
+        let slot = given[at];
+        let old = slot.column;
+        let column = ended_column(old, dash_style);
+        slots[at] = slot.with_column(column);
         at += 1;
     }
-}
-
-// Lets the entries merge into the columns, in order, and says who draws in each: the column that the entry merges as, in a word.
-pub fn walk(
-    codes: &mut [u64; COLUMN_LIMIT],
-    parents: &mut [u64; COLUMN_LIMIT],
-    live: usize,
-    column: usize,
-    entries: Entries,
-) -> Walked
-    ensures { λ r. ⌜ Walks (record { slots = slotsIn (now (codes .entry)); count = live }) column (listed entries) (wentOf r (now (codes .exit)) (now (parents .exit))) ⌝ }
-{
-    let n = entry_count(entries.count);
-    let mut count = column::live_words(codes, live);
-    clear_all(parents);
-    let mut spot: usize = 0;
-    let mut anonymous = false;
-    let mut i: usize = 0;
-    while i < n {
-        let entry = entries.list[i];
-        let ancestor = entry.ancestor;
-        let index = entry_column(codes, count, column, ancestor);
-        if COLUMN_LIMIT <= index {
-            return Walked {
-                fits: false,
-                count,
-                spot,
-                anonymous,
-            };
+    let mut last = n;
+    while 0 < last {
+        let end = slots[last - 1];
+        let end_column = end.column;
+        if end_column.is_empty() {
+            last -= 1;
+        } else {
+            return Columns { slots, count: last };
         }
-        codes[index] = entered(codes[index], index, count, ancestor);
-        count = column::count_with(count, index);
-        parents[index] = drawn(ancestor);
-        spot = index;
-        anonymous = anonymous | ancestor.is_anonymous();
-        i += 1;
     }
-    Walked {
-        fits: true,
-        count,
-        spot,
-        anonymous,
-    }
-}
-
-// The entry's column and the node's change places.
-fn swap_columns(
-    codes: &mut [u64; COLUMN_LIMIT],
-    parents: &mut [u64; COLUMN_LIMIT],
-    old: Column,
-    spot: usize,
-    column: usize,
-) -> Swap
-    requires { ⌜ (column < spot) × (spot < columnLimit) ⌝ }
-    ensures { λ r. ⌜ (now (codes .exit) ≡ set (set (now (codes .entry)) column (getD (now (codes .entry)) spot 0)) spot (getD (now (codes .entry)) column 0))
-        × (now (parents .exit) ≡ set (set (now (parents .entry)) spot 0) column (getD (now (parents .entry)) spot 0))
-        × (r ≡ record { «given_up» = Found.At spot; «was_direct» = isParent old }) ⌝ }
-{
-    let node_code = codes[column];
-    let entry_code = codes[spot];
-    codes[column] = entry_code;
-    codes[spot] = node_code;
-    let drawn = parents[spot];
-    parents[spot] = 0;
-    parents[column] = drawn;
-    let given_up = Found::At(spot);
-    Swap {
-        given_up,
-        was_direct: old.is_parent(),
-    }
-}
-
-// A single entry whose column lies right of the node swaps columns with it. Before the `entries` there were `count` columns, `bare`.
-pub fn settle(
-    codes: &mut [u64; COLUMN_LIMIT],
-    parents: &mut [u64; COLUMN_LIMIT],
-    bare: &[u64; COLUMN_LIMIT],
-    count: usize,
-    spot: usize,
-    column: usize,
-    entries: usize,
-) -> Swap
-    ensures { λ r. ⌜ record { slots = slotsIn (now (codes .exit)); parents = parentsIn (now (parents .exit)); swap = r }
-        ≡ settledOf (slotsIn (now (codes .entry))) (parentsIn (now (parents .entry))) spot (record { slots = slotsIn (now (bare .entry)); count = count }) column (eqb entries 1) ⌝ }
-{
-    if (entries != 1) | ((spot <= column) | (COLUMN_LIMIT <= spot)) {
-        let given_up = Found::Nothing;
-        return Swap {
-            given_up,
-            was_direct: false,
-        };
-    }
-    let old = column::column_at(bare[spot], spot, count);
-    swap_columns(codes, parents, old, spot, column)
+    Columns { slots, count: last }
 }

@@ -1,3 +1,4 @@
+-- The column that holds an entry's id.
 use borrow.Author.Needs.{needs}
 use Rattle.placing.proofs.held_by.Statement.{statement}
 use Rattle.placing.proofs.held_by.Tie as tie

@@ -1,0 +1,102 @@
+-- The search for the entry's id; where no column holds it, an Empty column, else a new last one.
+use borrow.Author.Needs.{needs}
+use Rattle.placing.proofs.parent_column.Statement.{statement}
+use Rattle.placing.proofs.parent_column.Tie as tie
+use Prim.Native.Nat.{_+_, _≤_, _-_}
+use mathlib.Core.Path.{_≡_, sym, _∙_}
+use native.Mathlib.Omega.{arith}
+use lib.ListN.{drop}
+use Rattle.column.specs.Columns.{live, first}
+use Rattle.column.proofs.Front.{length-front}
+use Rattle.column.proofs.Laws.{columnOf, later, later-zero, first-hit, first-miss, first-end, live-at, live-below, live-past}
+use Rattle.placing.specs.Inner.{holdsEntry}
+use Rattle.placing.proofs.PlacingLaws.{held-first, parent-column-held, parent-column-free, parent-column-last}
+
+abbrev Inv-loop : tie.InvT-loop
+Inv-loop count column ancestor slots n i₀ i = (i ≤ n) × (first (holdsEntry ancestor) (live count slots) ≡ later i (first (holdsEntry ancestor) (drop i (live count slots))))
+
+abbrev μ-loop : tie.MeasureT-loop
+μ-loop count column ancestor slots n i₀ i = n - i
+
+live-count-requires : tie.Need-live-count-requires Inv-loop μ-loop
+live-count-requires c κs = search needs
+
+loop-holds : tie.Need-loop-holds Inv-loop μ-loop
+loop-holds c = (omega arith, later-zero _)
+
+mul-slot : tie.Need-mul-slot Inv-loop μ-loop
+mul-slot c = search needs
+
+array-copy-out-slot : tie.Need-array-copy-out-slot Inv-loop μ-loop
+array-copy-out-slot c = search needs
+
+holds-entry-requires : tie.Need-holds-entry-requires Inv-loop μ-loop
+holds-entry-requires c κs = search needs
+
+returns : tie.Need-returns Inv-loop μ-loop
+returns c = let l = c .before .before .before .before in
+    let a = l .before .before .args in
+    let i = l .loop .i in
+    let cs = live (a .count) (a .t1) in
+    parent-column-held (a .column) (a .ancestor) cs i
+    (held-first (a .ancestor) cs ∙ l .loop .inv .1 ∙ first-hit (holdsEntry (a .ancestor)) cs i (live-below (a .count) (a .t1) i (omega arith) (omega arith))
+    (rw (live-at (a .count) (a .t1) i (omega arith) (omega arith)) (sym (c .before .holds-entry .ensures) ∙ c .if1 .taken)))
+
+add-i : tie.Need-add-i Inv-loop μ-loop
+add-i c = search needs
+
+loop-less : tie.Need-loop-less Inv-loop μ-loop
+loop-less c = search needs
+
+loop-again : tie.Need-loop-again Inv-loop μ-loop
+loop-again c = let l = c .before .before .before .before in
+    let a = l .before .before .args in
+    let i = l .loop .i in
+    (omega arith, l .loop .inv .1 ∙ first-miss (holdsEntry (a .ancestor)) (live (a .count) (a .t1)) i (live-below (a .count) (a .t1) i (omega arith) (omega arith))
+    (rw (live-at (a .count) (a .t1) i (omega arith) (omega arith)) (sym (c .before .holds-entry .ensures) ∙ c .if1 .left)))
+
+find-empty-requires : tie.Need-find-empty-requires Inv-loop μ-loop
+find-empty-requires c κs = search needs
+
+enum-known-index : tie.Need-enum-known-index Inv-loop μ-loop
+enum-known-index c = search needs
+
+enum-told : tie.Need-enum-told Inv-loop μ-loop
+enum-told c = search needs
+
+returns-2 : tie.Need-returns-2 Inv-loop μ-loop
+returns-2 c = let f = c .before .before in
+    let l = f .before .before in
+    let a = l .before .before .args in
+    let cs = live (a .count) (a .t1) in
+    let none = held-first (a .ancestor) cs ∙ l .loop .inv .1 ∙ first-end (holdsEntry (a .ancestor)) cs (l .loop .i) (live-past (a .count) (a .t1) (l .loop .i) (omega arith)) in
+    parent-column-last (a .column) (a .ancestor) cs _ none (sym (f .find-empty .ensures) ∙ c .enum-told .given .1) (rw (length-front columnOf (a .count) (a .t1)) (omega arith))
+
+returns-3 : tie.Need-returns-3 Inv-loop μ-loop
+returns-3 c = let f = c .before .before .before in
+    let l = f .before .before in
+    let a = l .before .before .args in
+    let cs = live (a .count) (a .t1) in
+    let none = held-first (a .ancestor) cs ∙ l .loop .inv .1 ∙ first-end (holdsEntry (a .ancestor)) cs (l .loop .i) (live-past (a .count) (a .t1) (l .loop .i) (omega arith)) in
+    parent-column-free (a .column) (a .ancestor) cs _ none (sym (f .find-empty .ensures) ∙ c .before .index .given .1)
+
+pub parent-column-spec : {M : Type 1} → statement M
+parent-column-spec =
+    tie.close
+    (tie.spec
+    Inv-loop
+    μ-loop
+    live-count-requires
+    loop-holds
+    mul-slot
+    array-copy-out-slot
+    holds-entry-requires
+    returns
+    add-i
+    loop-less
+    loop-again
+    find-empty-requires
+    enum-known-index
+    enum-told
+    returns-2
+    returns-3)
