@@ -1,3 +1,4 @@
+-- A link line's cell.
 use borrow.Author.Needs.{needs}
 use Rattle.cells.proofs.link_cell.Statement.{statement}
 use Rattle.cells.proofs.link_cell.Tie as tie

@@ -1,3 +1,4 @@
+-- The node line's cell.
 use borrow.Author.Needs.{needs}
 use Rattle.cells.proofs.node_cell.Statement.{statement}
 use Rattle.cells.proofs.node_cell.Tie as tie

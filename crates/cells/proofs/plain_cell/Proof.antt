@@ -1,3 +1,4 @@
+-- The cell of a column that nothing of the row reaches.
 use borrow.Author.Needs.{needs}
 use Rattle.cells.proofs.plain_cell.Statement.{statement}
 use Rattle.cells.proofs.plain_cell.Tie as tie

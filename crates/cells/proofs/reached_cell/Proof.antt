@@ -1,6 +1,7 @@
+-- The cell of a column that the row reaches.
 use borrow.Author.Needs.{needs}
-use Rattle.cells.proofs.ended_cell.Statement.{statement}
-use Rattle.cells.proofs.ended_cell.Tie as tie
+use Rattle.cells.proofs.reached_cell.Statement.{statement}
+use Rattle.cells.proofs.reached_cell.Tie as tie
 use Rattle.cells.proofs.CellLaws.{cell-done}
 
 from-node-requires : tie.Need-from-node-requires
@@ -27,15 +28,18 @@ column-to-pad-line-requires c κs = search needs
 is-anonymous-requires : tie.Need-is-anonymous-requires
 is-anonymous-requires c κs = search needs
 
-is-met-requires : tie.Need-is-met-requires
-is-met-requires c κs = search needs
+is-drawn-requires : tie.Need-is-drawn-requires
+is-drawn-requires c κs = search needs
 
 returns : tie.Need-returns
-returns c = let a = c .before .before .before .before .before .before .before .before .before .args in
-    cell-done (a .need-link-line) (a .bounds) (a .swap) (a .index) (a .met) (a .before) (a .settled) _ _ _ _ _ _ _ _ _ (c .before .before .before .before .before .before .before .before .from-node .ensures) (c .before .before .before .before .before .before .before .is-at .ensures) (c .before .before .before .before .before .before .with-uprights .ensures) (c .before .before .before .before .before .node-cell .ensures) (c .before .before .before .before .link-cell .ensures) (c .before .before .before .link-cell2 .ensures) (c .before .before .column-to-pad-line .ensures) (c .before .is-anonymous .ensures) (c .is-met .ensures)
+returns c =
+    let m = c .before .before .before .before .before .before in
+    let a = m .before .before .before .args in
+    cell-done (a .need-link-line) (a .bounds) (a .swap) (a .index) (a .drawn) (a .before) (a .settled) _ _ _ _ _ _ _ _ _ (m .before .before .from-node .ensures) (m .before .is-at .ensures) (m .with-uprights .ensures) (c .before .before .before .before .before .node-cell .ensures)
+    (c .before .before .before .before .link-cell .ensures) (c .before .before .before .link-cell2 .ensures) (c .before .before .column-to-pad-line .ensures) (c .before .is-anonymous .ensures) (c .is-drawn .ensures)
 
-pub ended-cell-spec : {M : Type 1} → statement M
-ended-cell-spec =
+pub reached-cell-spec : {M : Type 1} → statement M
+reached-cell-spec =
     tie.close
     (tie.spec
     from-node-requires
@@ -46,5 +50,5 @@ ended-cell-spec =
     link-cell-requires-2
     column-to-pad-line-requires
     is-anonymous-requires
-    is-met-requires
+    is-drawn-requires
     returns)
