@@ -1,156 +1,208 @@
--- The row call meets its definition: one law for each return of `next_row_shape`.
-use Prim.Native.Nat.{ℕ, zero, suc, _+_, _-_, _≤_, _<_, min}
+-- The row call meets its definition: what holds once the node's column is found, and one law for each return of `next_row_shape`.
+use Prim.Native.Nat.{ℕ, zero, suc, _+_, _-_, _≤_, _<_, min, max}
 use mathlib.Core.Path.{_≡_, refl, ap, ap₂, _∙_, sym}
-use mathlib.Core.Bool.{Bool, true, false}
+use mathlib.Core.Bool.{Bool, true, false, cond, _&&_}
 use mathlib.Core.List.{List, [], _∷_, _++_}
 use native.Mathlib.Nat.{not-suc-le-zero, le-of-suc-le-suc}
 use native.Mathlib.Omega.{arith}
 use lib.Dec.{ltb, eqb}
-use lib.ListN.{length, replicate}
+use lib.ListN.{length, getD, drop, set, replicate, length-set, length-replicate}
 use borrow.Author.Tests.{lt-ltb, le-ltb}
 use Rattle.column.specs.declared.Column.{Column}
 use Rattle.column.specs.declared.Column.the-variants.{Empty}
 use Rattle.column.specs.declared.Found.{Found}
-use Rattle.column.specs.declared.Slot.{Slot}
 use Rattle.column.specs.declared.Found.the-variants.{At, Nothing}
-use Rattle.column.specs.Columns.{columnLimit, isParent, find, orElse, merge, at, put, live}
-use Rattle.column.proofs.Front.{length-front}
-use Rattle.column.proofs.Laws.{columnOf as slotColumn}
-use Rattle.column.proofs.Positions.{at-put-same, length-put}
+use Rattle.column.specs.declared.Slot.{Slot}
+use Rattle.column.specs.Columns.{columnLimit, isParent, find, orElse, at, put, live, emptySlot}
+use Rattle.column.proofs.Front.{length-front, front-clamp}
+use Rattle.column.proofs.Laws.{columnOf as slotColumn, live-at, first-below}
+use Rattle.column.proofs.Positions.{length-put}
 use Rattle.render.specs.declared.render.Ancestor.{Ancestor as Entry}
 use Rattle.render.specs.declared.render.Entry.{Entry as Entry₁}
 use Rattle.render.specs.declared.render.Entries.{Entries}
 use Rattle.render.specs.declared.types.Cell.{Cell}
 use Rattle.render.specs.declared.types.RowShape.{RowShape}
-use Rattle.render.specs.Entries.{entryLimit, isAnonymous, anyOf, listed, tooMany}
+use Rattle.render.specs.Entries.{entryLimit, isAnonymous, anyOf, tooMany, given, listed}
 use Rattle.render.specs.Lines.{blankCell}
-use Rattle.shaper.specs.declared.Shaper.{Shaper}
-use Rattle.row_shape.specs.declared.RowAnswer.{RowAnswer}
-use Rattle.links.specs.declared.Met.{Met}
+use Rattle.render.specs.Refusals.{refusal}
+use Rattle.render.proofs.EntryLaws.{few-count, few-given}
+use Rattle.links.specs.declared.Drawn.{Drawn}
+use Rattle.links.specs.declared.Drawn.the-variants.{Nobody}
+use Rattle.links.specs.declared.ParentColumn.{ParentColumn}
 use Rattle.links.specs.declared.Swap.{Swap}
 use Rattle.links.specs.declared.AncestorColumnBounds.{AncestorColumnBounds}
-use Rattle.render.specs.Refusals.{refusal}
-use Rattle.shaper.specs.Shaper.{View, viewOf}
-use Rattle.shaper.specs.NodeColumn.{unallocated, nodeColumn, head}
-use Rattle.shaper.specs.Inner.{fitting}
-use Rattle.shaper.proofs.NodeLaws.{node-in, fitting-at, fitting-none}
-use Rattle.placing.specs.Placing.{walk, Placed, placeAt, place, drawsAt}
 use Rattle.links.specs.Links.{boundsOf, linked}
-use Rattle.links.specs.Inner.{ParentColumn, mets}
-use Rattle.placing.specs.Inner.{Columns, columnsOf, metAt, Opens, Went, Walks, Settled, settled}
+use Rattle.links.specs.Inner.{nobody, kindAt, kinds}
+use Rattle.links.proofs.LinkLaws.{kinds-at}
+use Rattle.shaper.specs.declared.Shaper.{Shaper}
+use Rattle.shaper.specs.Shaper.{View, viewOf}
+use Rattle.shaper.specs.NodeColumn.{unallocated, nodeColumn, headAt, head, Finds}
+use Rattle.shaper.proofs.NodeLaws.{node-in, fitting-at, fitting-none, head-held}
+use Rattle.placing.specs.declared.Columns.{Columns}
+use Rattle.placing.specs.Placing.{walk, gaveUp, swapped, Placed, placeAt, place, kindOf, drawsAt}
+use Rattle.placing.specs.Inner.{columnBefore, Ends}
+use Rattle.placing.proofs.PlacingLaws.{walk-more, opened-long, opened-is, before-is, Going, Gone, going-start, going-end, given-next, given-end}
+use Rattle.placing.proofs.SwapLaws.{other-inside, width-is, up-is, moved, moved-is, redrawn, redrawn-long, redrawn-is, kind-kept}
 use Rattle.cells.specs.Cells.{cellsFrom, cellOf}
+use Rattle.cells.specs.Inner.{cellAt}
+use Rattle.cells.proofs.CellLaws.{cell-is, cells-start, cells-next, cells-same}
+use Rattle.row_shape.specs.declared.RowAnswer.{RowAnswer}
 use Rattle.row_shape.specs.Row.{separator, shapeAt, noShape, RowReply, rowChecks, rowAfter, rowAnswer, row}
+use Rattle.row_shape.specs.Inner.{separatorWith}
 use Rattle.row_shape.specs.Promises.{Rows}
-use Rattle.row_shape.specs.Inner.{Accepts}
-use Rattle.cells.specs.Inner.{Keeps, Draws, RowLines, linesOf}
-use Rattle.placing.proofs.PlacingLaws.{walk-more}
-use Rattle.placing.proofs.SwapLaws.{Settles, settles, settles-kept}
-use Rattle.cells.proofs.CellLaws.{cells-same}
 
 -- ---- the row call from the node's column on
-abbrev rowFrom : View → ℕ → Bool → List Entry → ℕ → RowReply
-rowFrom v n many es c =
-    let p : Placed = placeAt c es (put (v .columns) c Empty) in rowAnswer (refusal (rowChecks many p)) v n es p
+abbrev rowFrom : View → ℕ → List Entry → ℕ → RowReply
+rowFrom v n es c =
+    let p : Placed = placeAt c es (put (v .columns) c Empty) in rowAnswer (refusal (rowChecks es p)) v n es p
 
-row-from : (v : View) (n : ℕ) (many : Bool) (es : List Entry) (c : ℕ) → c ≡ nodeColumn v n → row v n many es ≡ rowFrom v n many es c
+row-from : (v : View) (n : ℕ) (es : List Entry) (c : ℕ) → c ≡ nodeColumn v n → row v n es ≡ rowFrom v n es c
 unfolding row place
-row-from v n many es c e = sym (ap (rowFrom v n many es) e)
+row-from v n es c e = sym (ap (rowFrom v n es) e)
 
+-- ---- a row that is refused
 module _ (s : Shaper) (n : ℕ) (es : Entries) where
   abbrev v : View
   v = viewOf s
 
-  refused-row : (k : ℕ) → row v n (tooMany es) (listed es) ≡ record { refusal = suc k; shape = noShape; view = v }
+  refused-row : (k : ℕ) → row v n (listed es) ≡ record { refusal = suc k; shape = noShape; view = v }
       → Rows s n es (record { refusal = suc k; shape = noShape; shaper = s })
   refused-row k e =
       record {
         reply = sym e;
         refused = λ h. refl;
         fits = λ z. absurd (omega arith);
+        rest = λ z. absurd (omega arith);
         options = refl;
-        rest = λ g. g;
       }
 
   -- more than 32 entries
-  pub row-too-many : (r : RowAnswer) → tooMany es ≡ true → r ≡ record { refusal = 3; shape = noShape; shaper = s } → Rows s n es r
+  pub row-too-many : (r : RowAnswer) → tooMany (listed es) ≡ true → r ≡ record { refusal = 3; shape = noShape; shaper = s } → Rows s n es r
   unfolding row place
   row-too-many r h e = rw e (refused-row 2 (rw h))
 
-  module _ (few : tooMany es ≡ false) where
-    wide : columnLimit < length (walk (nodeColumn v n) (listed es) (put (v .columns) (nodeColumn v n) Empty))
-        → row v n (tooMany es) (listed es) ≡ record { refusal = 4; shape = noShape; view = v }
-    unfolding row place
-    wide h = rw (few, lt-ltb columnLimit (length (walk (nodeColumn v n) (listed es) (put (v .columns) (nodeColumn v n) Empty))) h)
+  module _ (few : tooMany (listed es) ≡ false) where
+    wide : (c : ℕ) → c ≡ nodeColumn v n → columnLimit < length (walk c (listed es) (put (v .columns) c Empty))
+        → row v n (listed es) ≡ record { refusal = 4; shape = noShape; view = v }
+    wide c e h = row-from v n (listed es) c e ∙ rw (few, lt-ltb columnLimit (length (walk c (listed es) (put (v .columns) c Empty))) h)
 
     -- no room for the node
-    pub row-no-column : (r : RowAnswer) (existing f : Found) → existing ≡ find n (v .columns) → f ≡ fitting (orElse existing (unallocated v)) → f ≡ Nothing
+    pub row-no-column : (r : RowAnswer) (existing f : Found) → existing ≡ find n (v .columns) → Finds (orElse existing (unallocated v)) f → f ≡ Nothing
         → r ≡ record { refusal = 4; shape = noShape; shaper = s } → Rows s n es r
     row-no-column r existing f e g q a =
-        let k : Nothing ≡ fitting (nodeColumn v n) = sym q ∙ g ∙ rw e in
-        let h : columnLimit ≤ nodeColumn v n = fitting-none (nodeColumn v n) k in
-        let cs : List Column = put (v .columns) (nodeColumn v n) Empty in
-        rw a (refused-row 3 (wide (omega (arith, walk-more (nodeColumn v n) (listed es) cs, length-put (v .columns) (nodeColumn v n) Empty))))
+        let c : ℕ = nodeColumn v n in
+        let k : orElse existing (unallocated v) ≡ c = rw e in
+        let h : columnLimit ≤ orElse existing (unallocated v) = fitting-none _ (sym q ∙ g .column) in
+        let cs : List Column = put (v .columns) c Empty in
+        rw a (refused-row 3 (wide c refl (omega (arith, k, h, walk-more c (listed es) cs, length-put (v .columns) c Empty))))
 
-    module _ (existing f : Found) (c : ℕ) (e : existing ≡ find n (v .columns)) (g : f ≡ fitting (orElse existing (unallocated v))) (q : f ≡ At c)
-        (l₀ : List Slot) (same : live (s .count) l₀ ≡ live (s .count) (s .slots)) (bare : Columns) (o : Opens l₀ (s .count) c bare) where
-      placed : (c ≡ nodeColumn v n) × (nodeColumn v n < columnLimit)
-      placed = fitting-at c (nodeColumn v n) (sym q ∙ g ∙ rw e)
+-- ---- the node's column is found
 
-      pub within : c < columnLimit
-      within = rw (placed .0) (placed .1)
+-- what holds from there on: m columns are live, and the node's is c
+pub record Begun (s : Shaper) (n : ℕ) (es : Entries) (existing : Found) (c m : ℕ) : Type 0 where
+  pub few : tooMany (listed es) ≡ false
+  pub held : existing ≡ find n (viewOf s .columns)
+  pub place : c ≡ nodeColumn (viewOf s) n
+  pub within : c < columnLimit
+  pub count : m ≡ min (s .count) columnLimit
+  pub long : length (s .slots) ≡ columnLimit
+  pub wide-list : length (es .list) ≡ entryLimit
 
-      -- the columns with the node's Empty
-      bare-is : columnsOf bare ≡ put (v .columns) c Empty
-      bare-is = rw same at (o .columns within (rw (same, placed .0) (node-in v n)))
+pub column-within : (u c : ℕ) (f : Found) → Finds u f → f ≡ At c → c < columnLimit
+column-within u c f g q = let p = fitting-at c u (sym q ∙ g .column) in rw (p .0) (p .1)
 
-      -- no room for the entries
-      pub row-no-room : (r : RowAnswer) (w : Went) → Walks bare c (listed es) w → w .fits ≡ false
-          → r ≡ record { refusal = 4; shape = noShape; shaper = s } → Rows s n es r
-      row-no-room r w p z a =
-          let h : columnLimit < length (walk c (listed es) (put (v .columns) c Empty)) = rw bare-is at (p .over z) in
-          rw a (refused-row 3 (wide (rw (placed .0) at h)))
+pub begun : (s : Shaper) (n : ℕ) (es : Entries) (existing f : Found) (c m : ℕ) → tooMany (listed es) ≡ false → existing ≡ find n (viewOf s .columns)
+    → Finds (orElse existing (unallocated (viewOf s))) f → f ≡ At c → m ≡ min (s .count) columnLimit → length (s .slots) ≡ columnLimit → length (es .list) ≡ entryLimit
+    → Begun s n es existing c m
+begun s n es existing f c m few e g q k long listed-long =
+    let p = fitting-at c (orElse existing (unallocated (viewOf s))) (sym q ∙ g .column) in
+    record { few = few; held = e; place = p .0 ∙ rw e; within = rw (p .0) (p .1); count = k; long = long; wide-list = listed-long }
+
+module _ (s : Shaper) (n : ℕ) (es : Entries) (existing : Found) (c m : ℕ) (b : Begun s n es existing c m) where
+  abbrev u : View
+  u = viewOf s
+
+  -- the columns before the entries, the node's Empty
+  abbrev pub bare : List Column
+  bare = put (live m (s .slots)) c Empty
+
+  same-columns : live m (s .slots) ≡ u .columns
+  same-columns = front-clamp slotColumn m (s .count) (s .slots) (rw (b .long) (b .count))
+
+  bare-is : bare ≡ put (u .columns) c Empty
+  bare-is = ap (λ (cs : List Column). put cs c Empty) same-columns
+
+  length-live : length (live m (s .slots)) ≡ m
+  length-live = rw (length-front slotColumn m (s .slots), b .long) (omega (arith, b .count))
+
+  pub near : c ≤ suc m
+  near = rw (b .place) (omega (arith, node-in u n, ap length same-columns, length-live))
+
+  few-columns : m ≤ columnLimit
+  few-columns = omega (arith, b .count)
+
+  node-in-bare : c < length bare
+  node-in-bare = omega (arith, length-put (live m (s .slots)) c Empty)
+
+  -- the entries are those of the array
+  pub given-is : listed es ≡ given es
+  given-is = few-given es (b .few)
+
+  pub count-within : es .count ≤ entryLimit
+  count-within = few-count es (b .few)
+
+  length-given : es .count ≡ length (given es)
+  length-given =
+      let z : length (given es) ≡ min (es .count) (length (es .list)) = length-front (λ (e : Entry₁). e .ancestor) (es .count) (es .list) in
+      omega (arith, z, b .wide-list, count-within)
+
+  -- the walk begins
+  pub row-start : (k w : ℕ) (parents : List ParentColumn) → k ≡ min m c → w ≡ min (max m (c + 1)) columnLimit → parents ≡ replicate columnLimit nobody
+      → Going bare c (given es) 0 (set (set (s .slots) k emptySlot) c emptySlot) w parents 0 false
+  row-start k w parents e f p =
+      going-start bare c (given es) _ w parents (opened-long (s .slots) m c (b .long) few-columns (b .within) near k w e f) (omega arith)
+      (opened-is (s .slots) m c (b .long) few-columns (b .within) near k w e f) p
+
+  -- the walk ends
+  pub row-walked : (i : ℕ) (slots : List Slot) (count : ℕ) (parents : List ParentColumn) (last : ℕ) (said : Bool) → Going bare c (given es) i slots count parents last said → es .count ≤ i
+      → Gone bare c (given es) slots count parents last said
+  row-walked i slots count parents last said g h = going-end bare c (given es) i slots count parents last said g (given-end (es .count) (es .list) i h)
+
+  -- the next entry of the array
+  pub entry-next : (i : ℕ) (d : Entry₁) → i < es .count → drop i (given es) ≡ (getD (es .list) i d) .ancestor ∷ drop (suc i) (given es)
+  entry-next i d h = given-next (es .count) (es .list) i d h (rw (b .wide-list) (omega (arith, count-within)))
+
+  -- no room for the entries
+  pub row-no-room : (r : RowAnswer) → columnLimit < length (walk c (given es) bare) → r ≡ record { refusal = 4; shape = noShape; shaper = s } → Rows s n es r
+  row-no-room r h a = rw a (refused-row s n es 3 (wide s n es (b .few) c (b .place) (rw (given-is, ← bare-is) h)))
 
 -- ---- the shape
 
 -- who draws in each column of an array, as a function of the place
-mets-from : (n : ℕ) (l : List ParentColumn) (i : ℕ) (f : ℕ → Met) → n ≤ length l → ((j : ℕ) → metAt l j ≡ f (i + j)) → mets n l ≡ cellsFrom f i n
-mets-from zero l i f h e = refl
-mets-from (suc n) [] i f h e = absurd (not-suc-le-zero h)
-mets-from (suc n) (x ∷ l) i f h e =
+kinds-from : (n : ℕ) (l : List ParentColumn) (i : ℕ) (f : ℕ → Drawn) → n ≤ length l → ((j : ℕ) → kindAt l j ≡ f (i + j)) → kinds n l ≡ cellsFrom f i n
+kinds-from zero l i f h e = refl
+kinds-from (suc n) [] i f h e = absurd (not-suc-le-zero h)
+kinds-from (suc n) (x ∷ l) i f h e =
     let z : i + 0 ≡ i = omega arith in
-    let a : x .met ≡ f i = e 0 ∙ ap f z in
-    let r : mets n l ≡ cellsFrom f (suc i) n = mets-from n l (suc i) f (le-of-suc-le-suc h) (λ j. let y : i + suc j ≡ suc i + j = omega arith in e (suc j) ∙ ap f y) in
+    let a : x .drawn ≡ f i = e 0 ∙ ap f z in
+    let r : kinds n l ≡ cellsFrom f (suc i) n = kinds-from n l (suc i) f (le-of-suc-le-suc h) (λ j. let y : i + suc j ≡ suc i + j = omega arith in e (suc j) ∙ ap f y) in
     rw (a, r)
 
-mets-are : (n : ℕ) (l : List ParentColumn) (f : ℕ → Met) → n ≤ length l → ((j : ℕ) → metAt l j ≡ f j) → mets n l ≡ cellsFrom f 0 n
-mets-are n l f h e = mets-from n l 0 f h (λ j. let y : j ≡ 0 + j = omega arith in e j ∙ ap f y)
+kinds-are : (n : ℕ) (l : List ParentColumn) (f : ℕ → Drawn) → n ≤ length l → ((j : ℕ) → kindAt l j ≡ f j) → kinds n l ≡ cellsFrom f 0 n
+kinds-are n l f h e = kinds-from n l 0 f h (λ j. let y : j ≡ 0 + j = omega arith in e j ∙ ap f y)
 
-swap-same : (a b : Swap) → a .«given_up» ≡ b .«given_up» → a .«was_direct» ≡ b .«was_direct» → a ≡ b
-swap-same a b e f = ap₂ (λ (x : Found) (y : Bool). record { «given_up» = x; «was_direct» = y }) e f
+swap-same : (a : Swap) (f : Found) (d : Bool) → a .«given_up» ≡ f → a .«was_direct» ≡ d → a ≡ record { «given_up» = f; «was_direct» = d }
+swap-same a f d e g = ap₂ (λ (x : Found) (y : Bool). record { «given_up» = x; «was_direct» = y }) e g
 
--- a row's lines, from who draws and the columns before and after
-abbrev linesBy : (ℕ → Met) → Swap → List Column → List Column → ℕ → ℕ → RowLines
-linesBy draws w bs ss width c =
-    let r : AncestorColumnBounds = boundsOf (cellsFrom draws 0 width) c in
-    record {
-      «link_line» = linked r w;
-      cells = cellsFrom (λ i. cellOf (linked r w) r w i (draws i) (at bs i) (at ss i)) 0 width ++ replicate (columnLimit - width) blankCell;
-    }
-
-lines-same : (r : Settled) (bare : Columns) (width c : ℕ) (draws : ℕ → Met) (w : Swap) (bs ss : List Column) → width ≤ columnLimit
-    → mets width (r .parents) ≡ cellsFrom draws 0 width → ((i : ℕ) → metAt (r .parents) i ≡ draws i) → columnsOf bare ≡ bs → live width (r .slots) ≡ ss → r .swap ≡ w
-    → linesOf r bare width c ≡ linesBy draws w bs ss width c
-lines-same r bare width c draws w bs ss h e m b s q =
-    let z : min width columnLimit ≡ width = omega arith in
-    let k : AncestorColumnBounds = boundsOf (cellsFrom draws 0 width) c in
-    rw (z, e, b, s, q)
-    (ap (λ (l : List Cell). record { «link_line» = linked k w; cells = l ++ replicate (columnLimit - width) blankCell })
-    (cells-same (λ i. cellOf (linked k w) k w i (metAt (r .parents) i) (at bs i) (at ss i)) (λ i. cellOf (linked k w) k w i (draws i) (at bs i) (at ss i)) (λ i. rw (m i)) 0 width))
-
-shape-done : (v : View) (n : ℕ) (es : List Entry) (p : Placed) (merges sep hd root term : Bool) (width : ℕ) (l : RowLines)
-    → merges ≡ ltb 1 (length es) → sep ≡ separator v (find n (v .columns)) (p .column) (anyOf isAnonymous es) → hd ≡ head (find n (v .columns)) (v .columns) → root ≡ eqb (length es) 0
-    → width ≡ length (p .walked) → term ≡ anyOf isAnonymous es
-    → l ≡ linesBy (drawsAt (p .up) (p .column) es (p .bare)) (record { «given_up» = p .up; «was_direct» = isParent (at (p .bare) (orElse (p .up) (p .column))) }) (p .bare) (p .settled) (length (p .walked)) (p .column)
+-- the shape, from what the call found
+shape-by : (v : View) (n : ℕ) (es : List Entry) (p : Placed) (merges sep hd root term : Bool) (width : ℕ) (r : AncestorColumnBounds) (w : Swap) (need : Bool) (cells : List Cell)
+    → merges ≡ ltb 1 (length es) → sep ≡ separator v (find n (v .columns)) (p .column) (anyOf isAnonymous es) → hd ≡ head (find n (v .columns)) (v .columns)
+    → root ≡ eqb (length es) 0 → width ≡ length (p .walked) → term ≡ anyOf isAnonymous es
+    → r ≡ boundsOf (cellsFrom (λ i. kindOf (drawsAt (p .up) (p .column) es (p .bare) i)) 0 (length (p .walked))) (p .column)
+    → w ≡ record { «given_up» = p .up; «was_direct» = isParent (at (p .bare) (orElse (p .up) (p .column))) } → need ≡ linked r w
+    → cells
+    ≡ cellsFrom (λ i. cellOf need r w i (kindOf (drawsAt (p .up) (p .column) es (p .bare) i)) (at (p .bare) i) (at (p .settled) i)) 0 (length (p .walked))
+    ++ replicate (columnLimit - length (p .walked)) blankCell
     → record {
       node = n;
       merge = merges;
@@ -160,113 +212,214 @@ shape-done : (v : View) (n : ℕ) (es : List Entry) (p : Placed) (merges sep hd 
       «is_root» = root;
       «node_column» = p .column;
       width = width;
-      «link_line» = l .«link_line»;
+      «link_line» = need;
       «term_line» = term;
-      cells = l .cells;
+      cells = cells;
     }
     ≡ shapeAt v n es p
-shape-done v n es p merges sep hd root term width l e1 e2 e3 e4 e5 e6 e7 = rw (e1, e2, e3, e4, e5, e6, e7)
+shape-by v n es p merges sep hd root term width r w need cells e1 e2 e3 e4 e5 e6 e7 e8 e9 e10 = rw (e1, e2, e3, e4, e5, e6, e10, e9, e7, e8)
 
--- ---- an accepted row
-
--- the list of entries is as long as the count says
-module _ (es : Entries) (long : length (es .list) ≡ entryLimit) (few : es .count ≤ entryLimit) where
-  length-listed : length (listed es) ≡ es .count
-  length-listed =
-      let z : length (listed es) ≡ min (es .count) (length (es .list)) = length-front (λ (e : Entry₁). e .ancestor) (es .count) (es .list) in
-      omega arith
-
-  pub root-is : eqb (es .count) 0 ≡ eqb (length (listed es)) 0
-  root-is = ap (λ (k : ℕ). eqb k 0) (sym length-listed)
-
-accept : (v : View) (n : ℕ) (es : List Entry) (c : ℕ) → c ≡ nodeColumn v n → length (walk c es (put (v .columns) c Empty)) ≤ columnLimit
-    → row v n false es
-    ≡ record { refusal = 0; shape = shapeAt v n es (placeAt c es (put (v .columns) c Empty)); view = rowAfter v (placeAt c es (put (v .columns) c Empty)) }
-accept v n es c e h = row-from v n false es c e ∙ rw (le-ltb columnLimit (length (walk c es (put (v .columns) c Empty))) h)
+accept : (v : View) (n : ℕ) (es : List Entry) (c : ℕ) (cs : List Column) → c ≡ nodeColumn v n → cs ≡ put (v .columns) c Empty → tooMany es ≡ false → length (walk c es cs) ≤ columnLimit
+    → row v n es ≡ record { refusal = 0; shape = shapeAt v n es (placeAt c es cs); view = rowAfter v (placeAt c es cs) }
+accept v n es c cs e b few h =
+    row-from v n es c e ∙ rw (← b, few, le-ltb columnLimit (length (walk c es cs)) h)
 
 reply-same : (r : ℕ) (a b : RowShape) (x y : View) → a ≡ b → x ≡ y → _≡_ {A = RowReply} (record { refusal = r; shape = a; view = x }) (record { refusal = r; shape = b; view = y })
 reply-same r a b x y e f = ap₂ (λ (g : RowShape) (u : View). record { refusal = r; shape = g; view = u }) e f
 
-module _ (s : Shaper) (n : ℕ) (es : Entries) (few : tooMany es ≡ false) (fewer : es .count ≤ entryLimit) (entries : length (es .list) ≡ entryLimit) (existing f : Found)
-    (c : ℕ) (e : existing ≡ find n (live (s .count) (s .slots))) (g : f ≡ fitting (orElse existing (unallocated (viewOf s)))) (q : f ≡ At c) (l₀ : List Slot) (same : live (s .count) l₀ ≡ live (s .count) (s .slots)) (bare : Columns)
-    (o : Opens l₀ (s .count) c bare) (w : Went) (p : Walks bare c (listed es) w) (fit : w .fits ≡ true) (r : Settled)
-    (a : r ≡ settled (w .slots) (w .parents) (w .spot) bare c (eqb (es .count) 1)) where
-  abbrev u : View
-  u = viewOf s
+-- the cell that the call stores for column i
+abbrev pub storedCell : Bool → AncestorColumnBounds → Swap → List ParentColumn → List Slot → List Slot → ℕ → ℕ → ℕ → Cell
+storedCell need r w parents old slots m c i =
+    cellAt need r w i (kindAt parents i) (columnBefore (getD old i emptySlot) i m c) ((getD slots i emptySlot) .column)
 
+-- the cells once k are stored
+abbrev pub storedCells : Bool → AncestorColumnBounds → Swap → List ParentColumn → List Slot → List Slot → ℕ → ℕ → ℕ → List Cell
+storedCells need r w parents old slots m c k =
+    cellsFrom (storedCell need r w parents old slots m c) 0 k ++ replicate (columnLimit - k) blankCell
+
+module _ (s : Shaper) (n : ℕ) (es : Entries) (existing : Found) (c m : ℕ) (b : Begun s n es existing c m) (walked : List Slot) (count : ℕ) (met : List ParentColumn)
+    (last : ℕ) (said : Bool) (g : Gone (put (live m (s .slots)) c Empty) c (given es) walked count met last said) where
   abbrev bs : List Column
-  bs = put (u .columns) c Empty
+  bs = put (live m (s .slots)) c Empty
 
-  abbrev pl : Placed
-  pl = placeAt c (listed es) bs
+  abbrev rs : List Entry
+  rs = given es
 
-  c-is : c ≡ nodeColumn u n
-  c-is = placed s n es few existing f c e g q l₀ same bare o .0
+  abbrev up : Found
+  up = gaveUp c rs bs
 
-  b-is : columnsOf bare ≡ bs
-  b-is = bare-is s n es few existing f c e g q l₀ same bare o
+  abbrev ws : List Column
+  ws = walk c rs bs
 
-  one : eqb (es .count) 1 ≡ eqb (length (listed es)) 1
-  one = rw (length-listed es entries fewer)
+  inside : c < length bs
+  inside = node-in-bare s n es existing c m b
 
-  st : Settles (listed es) c bs (w .count) r
-  st = rw a (settles c bs bare b-is (at-put-same (u .columns) c Empty) (o .long) w fit (listed es) p (eqb (es .count) 1) one)
+  pub width-fits : count ≤ columnLimit
+  width-fits = g .fits
 
-  width-is : w .count ≡ length (walk c (listed es) bs)
-  width-is =
-      let z : length (live (w .count) (w .slots)) ≡ length (walk c (listed es) bs) = ap length (rw b-is at (p .columns fit)) in
-      omega (arith, length-front slotColumn (w .count) (w .slots), p .long, p .fitting)
+  -- the column given up, as the call finds it, and the one that changes places with the node's
+  module _ (f : Found) (f-is : f ≡ cond (eqb (es .count) 1 && ltb c last) (At last) Nothing) (o : ℕ) (o-is : o ≡ orElse f c) where
+    f-up : f ≡ up
+    f-up = up-is bs c rs walked count met last said g inside (es .count) f (length-given s n es existing c m b) f-is
 
-  lines-are : (l : RowLines) → l ≡ linesOf r bare (w .count) c
-      → l ≡ linesBy (drawsAt (pl .up) c (listed es) bs) (record { «given_up» = pl .up; «was_direct» = isParent (at bs (orElse (pl .up) c)) }) bs (pl .settled) (length (pl .walked)) c
-  lines-are l h =
-      h
-      ∙ lines-same r bare (w .count) c (drawsAt (pl .up) c (listed es) bs) _ bs (pl .settled) (p .fitting)
-      (mets-are (w .count) (r .parents) (drawsAt (pl .up) c (listed es) bs) (rw (st .wide) (p .fitting)) (st .draws))
-      (st .draws) b-is (st .columns) (swap-same (r .swap) _ (st .up) (st .direct))
-      ∙ ap (λ (k : ℕ). linesBy (drawsAt (pl .up) c (listed es) bs) (record { «given_up» = pl .up; «was_direct» = isParent (at bs (orElse (pl .up) c)) }) bs (pl .settled) k c) width-is
+    o-other : o ≡ orElse up c
+    o-other = o-is ∙ ap (λ (x : Found). orElse x c) f-up
 
-  -- a column in which nothing of the row ends is kept, so that the cells are those of the definition
-  keeps : (b : AncestorColumnBounds) → b .target ≡ c → (i : ℕ) → Keeps b (r .swap) i (metAt (r .parents) i) (at (columnsOf bare) i) (at (live (w .count) (r .slots)) i)
-  keeps b h i m o k = rw b-is (settles-kept (listed es) c bs (w .count) r st i m (rw h at o) k)
+    pub other-within : o < columnLimit
+    other-within =
+        omega (arith, o-other, other-inside bs c rs walked count met last said g inside, width-is bs c rs walked count met last said g inside, g .fits)
 
-  lines-drawn : (b : AncestorColumnBounds) (need : Bool) (cells : List Cell) → b ≡ boundsOf (mets (w .count) (r .parents)) c → need ≡ linked b (r .swap)
-      → Draws b (r .swap) (r .parents) bare (r .slots) (w .count) cells
-      → record { «link_line» = need; cells = cells } ≡ linesOf r bare (w .count) c
-  lines-drawn b need cells be ne ce =
-      let h : b .target ≡ c = ap (λ (x : AncestorColumnBounds). x .target) be in
-      rw (ce (be ∙ ap (λ (k : ℕ). boundsOf (mets (w .count) (r .parents)) k) (sym h)) (keeps b h), ne, be)
+    module _ (slots : List Slot) (slots-is : slots ≡ set (set walked c (getD walked o emptySlot)) o (getD walked c emptySlot))
+        (parents : List ParentColumn) (parents-is : parents ≡ set (set met o nobody) c (getD met o nobody))
+        (direct : Bool) (direct-is : direct ≡ isParent (columnBefore (getD (s .slots) o emptySlot) o m c)) where
+      abbrev swap : Swap
+      swap = record { «given_up» = f; «was_direct» = direct }
 
-  pub row-done : (b : AncestorColumnBounds) (term sep hd need : Bool) (cells : List Cell) (x : RowAnswer) → term ≡ anyOf isAnonymous (listed es) → sep ≡ separator u existing c term → hd ≡ head existing (u .columns)
-      → b ≡ boundsOf (mets (w .count) (r .parents)) c → need ≡ linked b (r .swap)
-      → Draws b (r .swap) (r .parents) bare (r .slots) (w .count) cells
-      → Accepts (s .options)
-      (record {
-        node = n;
-        merge = ltb 1 (es .count);
-        «separator_line» = sep;
-        style = u .style;
-        «is_head» = hd;
-        «is_root» = eqb (es .count) 0;
-        «node_column» = c;
-        width = w .count;
-        «link_line» = need;
-        «term_line» = term;
-        cells = cells;
-      })
-      (live (w .count) (r .slots)) x
-      → Rows s n es x
-  row-done b term sep hd need cells x te se he be ne ce g =
+      -- the columns after the swap
+      abbrev settled : List Column
+      settled = swapped up c ws
+
+      settled-is : live count slots ≡ settled
+      settled-is =
+          ap (live count) (slots-is ∙ ap (λ (x : ℕ). set (set walked c (getD walked x emptySlot)) x (getD walked c emptySlot)) o-other)
+          ∙ moved-is bs c rs walked count met last said g inside
+
+      pub slots-long : length slots ≡ columnLimit
+      slots-long = ap length slots-is ∙ length-set (set walked c (getD walked o emptySlot)) o _ ∙ length-set walked c _ ∙ g .long
+
+      redrawn-as : parents ≡ set (set met (orElse up c) nobody) c (getD met (orElse up c) nobody)
+      redrawn-as = parents-is ∙ ap (λ (x : ℕ). set (set met x nobody) c (getD met x nobody)) o-other
+
+      abbrev draws : ℕ → Drawn
+      draws i = kindOf (drawsAt up c rs bs i)
+
+      kinds-is : (i : ℕ) → kindAt parents i ≡ draws i
+      kinds-is i = ap (λ (l : List ParentColumn). kindAt l i) redrawn-as ∙ redrawn-is bs c rs walked count met last said g inside i
+
+      pub parents-long : length parents ≡ columnLimit
+      parents-long = ap length redrawn-as ∙ redrawn-long bs c rs walked count met last said g inside
+
+      -- the swap's strokes
+      swap-is : swap ≡ record { «given_up» = up; «was_direct» = isParent (at bs (orElse up c)) }
+      swap-is =
+          swap-same swap up (isParent (at bs (orElse up c))) f-up
+          (direct-is
+          ∙ ap isParent (before-is (s .slots) m c (b .long) (few-columns s n es existing c m b) (b .within) (near s n es existing c m b) o other-within)
+          ∙ ap (λ (x : ℕ). isParent (at bs x)) o-other)
+
+      width-as : count ≡ length ws
+      width-as = width-is bs c rs walked count met last said g inside
+
+      module _ (r : AncestorColumnBounds) (r-is : r ≡ boundsOf (kinds count parents) c) where
+        target-is : r .target ≡ c
+        target-is = ap (λ (x : AncestorColumnBounds). x .target) r-is
+
+        -- each cell that is stored is the definition's
+        cell-at : (need : Bool) (i : ℕ) → i < count → storedCell need r swap parents (s .slots) slots m c i ≡ cellOf need r swap i (draws i) (at bs i) (at settled i)
+        cell-at need i h =
+            let k : i < columnLimit = omega (arith, g .fits) in
+            let old : columnBefore (getD (s .slots) i emptySlot) i m c ≡ at bs i =
+            before-is (s .slots) m c (b .long) (few-columns s n es existing c m b) (b .within) (near s n es existing c m b) i k in
+            let new : (getD slots i emptySlot) .column ≡ at settled i =
+            sym (live-at count slots i h (rw slots-long k)) ∙ ap (λ (x : List Column). at x i) settled-is in
+            rw (old, new, kinds-is i)
+            (cell-is need r swap (kinds count parents) c i (draws i) (at bs i) (at settled i) r-is
+            (kinds-at count parents i h (rw parents-long k) ∙ kinds-is i)
+            (λ d e q. kind-kept i c rs bs d (rw target-is at e) (rw f-up at q)))
+
+        bounds-as : r ≡ boundsOf (cellsFrom draws 0 (length ws)) c
+        bounds-as =
+            r-is
+            ∙ ap (λ (x : List Drawn). boundsOf x c) (kinds-are count parents draws (rw parents-long (g .fits)) kinds-is)
+            ∙ ap (λ (x : ℕ). boundsOf (cellsFrom draws 0 x) c) width-as
+
+        module _ (need : Bool) (need-is : need ≡ linked r swap) (cells : List Cell) (k : ℕ) (k-is : k ≡ count) (cells-are : cells ≡ storedCells need r swap parents (s .slots) slots m c k) where
+          abbrev p : Placed
+          p = placeAt c rs bs
+
+          cells-as : cells ≡ cellsFrom (λ i. cellOf need r swap i (draws i) (at bs i) (at settled i)) 0 (length ws) ++ replicate (columnLimit - length ws) blankCell
+          cells-as =
+              cells-are
+              ∙ ap (λ (x : ℕ). storedCells need r swap parents (s .slots) slots m c x) k-is
+              ∙ ap (λ (x : List Cell). x ++ replicate (columnLimit - count) blankCell)
+              (cells-same (storedCell need r swap parents (s .slots) slots m c) (λ i. cellOf need r swap i (draws i) (at bs i) (at settled i)) count (cell-at need) 0 count (omega arith))
+              ∙ ap (λ (x : ℕ). cellsFrom (λ i. cellOf need r swap i (draws i) (at bs i) (at settled i)) 0 x ++ replicate (columnLimit - x) blankCell) width-as
+
+          head-is : (hd : Bool) → hd ≡ headAt existing ((getD (s .slots) c emptySlot) .column) → hd ≡ head existing (viewOf s .columns)
+          head-is hd e = head-held (s .slots) (s .count) existing c _ hd (b .long) (b .within) there refl e
+            where
+              there : (i : ℕ) → existing ≡ At i → (i ≡ c) × (i < s .count)
+              there i q =
+                  let found : find n (viewOf s .columns) ≡ At i = sym (b .held) ∙ q in
+                  let z : c ≡ i = b .place ∙ rw found in
+                  (sym z, omega (arith, first-below _ (viewOf s .columns) i found, length-front slotColumn (s .count) (s .slots)))
+
+          module _ (hd sep : Bool) (hd-is : hd ≡ headAt existing ((getD (s .slots) c emptySlot) .column))
+              (sep-is : sep ≡ separatorWith (s .options) (s .«previous_node_column») existing c said) where
+            abbrev shape : RowShape
+            shape =
+                record {
+                  node = n;
+                  merge = ltb 1 (es .count);
+                  «separator_line» = sep;
+                  style = s .options .«graph_row_shape_style»;
+                  «is_head» = hd;
+                  «is_root» = eqb (es .count) 0;
+                  «node_column» = c;
+                  width = count;
+                  «link_line» = need;
+                  «term_line» = said;
+                  cells = cells;
+                }
+
+            shape-is : shape ≡ shapeAt (viewOf s) n rs p
+            shape-is =
+                shape-by (viewOf s) n rs p (ltb 1 (es .count)) sep hd (eqb (es .count) 0) said count r swap need cells
+                (rw (← length-given s n es existing c m b)) (sep-is ∙ rw (← b .held, ← g .said-is)) (head-is hd hd-is ∙ rw (b .held)) (rw (← length-given s n es existing c m b))
+                width-as (g .said-is) bounds-as swap-is need-is cells-as
+
+            -- an accepted row: its shape, and the shaper after it
+            pub row-done : (e : Columns) → Ends slots count (s .options .«graph_row_shape_style» .«dash_style») e
+                → Rows s n es (record { refusal = 0; shape = shape; shaper = record { slots = e .slots; count = e .count; «previous_node_column» = At c; options = s .options } })
+            row-done e h =
+                record {
+                  reply =
+                      reply-same 0 shape (shapeAt (viewOf s) n rs p) _ (rowAfter (viewOf s) p) shape-is (rw (h .columns, settled-is))
+                      ∙ sym (accept (viewOf s) n rs c bs (b .place) (bare-is s n es existing c m b) (rw (← given-is s n es existing c m b) (b .few)) (rw (← width-as) (g .fits)))
+                      ∙ ap (row (viewOf s) n) (sym (given-is s n es existing c m b));
+                  refused = λ z. absurd (z refl);
+                  fits = λ z. h .fits;
+                  rest = λ z. h .rest;
+                  options = refl;
+                }
+
+-- ---- the loop over the cells
+
+-- what it keeps once k of count cells are stored
+pub record Drawing (need : Bool) (r : AncestorColumnBounds) (w : Swap) (parents : List ParentColumn) (old slots : List Slot) (m c count : ℕ) (cells : List Cell) (k : ℕ) : Type 0 where
+  pub upto : k ≤ count
+  pub fits : count ≤ columnLimit
+  pub long : length cells ≡ columnLimit
+  pub stored : cells ≡ storedCells need r w parents old slots m c k
+
+module _ (need : Bool) (r : AncestorColumnBounds) (w : Swap) (parents : List ParentColumn) (old slots : List Slot) (m c count : ℕ) (cells : List Cell) where
+  pub drawing-start : (blank : Cell) → blank ≡ blankCell → count ≤ columnLimit → cells ≡ replicate columnLimit blank → Drawing need r w parents old slots m c count cells 0
+  drawing-start blank e h f =
+      let q : cells ≡ replicate columnLimit blankCell = f ∙ rw e in
       record {
-        reply =
-            rw (g .number, g .shape, g .columns, g .previous, g .same)
-            (reply-same 0 _ (shapeAt u n (listed es) pl) _ (rowAfter u pl)
-            (shape-done u n (listed es) pl (ltb 1 (es .count)) sep hd (eqb (es .count) 0) term (w .count) (record { «link_line» = need; cells = cells })
-            (rw (length-listed es entries fewer)) (se ∙ rw (e, te)) (he ∙ rw e) (root-is es entries fewer) width-is te (lines-are _ (lines-drawn b need cells be ne ce)))
-            (rw (st .columns))
-            ∙ sym (rw few (accept u n (listed es) c c-is (rw (← width-is) (p .fitting)))));
-        refused = λ z. absurd (z (g .number));
-        fits = λ z. g .fits;
-        options = g .same;
-        rest = λ y. g .spare;
+        upto = omega arith;
+        fits = h;
+        long = ap length q ∙ length-replicate columnLimit blankCell;
+        stored = cells-start (storedCell need r w parents old slots m c) blankCell columnLimit cells q;
+      }
+
+  pub drawing-next : (k : ℕ) (a : Cell) (x : Column) → Drawing need r w parents old slots m c count cells k → k < count
+      → a ≡ cellAt need r w k (kindAt parents k) x ((getD slots k emptySlot) .column) → x ≡ columnBefore (getD old k emptySlot) k m c
+      → Drawing need r w parents old slots m c count (set cells k a) (k + 1)
+  drawing-next k a x d h e f =
+      record {
+        upto = omega arith;
+        fits = d .fits;
+        long = length-set cells k a ∙ d .long;
+        stored = cells-next (storedCell need r w parents old slots m c) blankCell columnLimit k cells a (omega (arith, d .fits)) (e ∙ rw f) (d .stored);
       }

@@ -11,14 +11,14 @@ use Rattle.render.specs.declared.render.Ancestor.{Ancestor as Entry}
 use Rattle.render.specs.declared.types.RowShape.{RowShape}
 use Rattle.render.specs.Entries.{isAnonymous, anyOf, tooMany}
 use Rattle.render.specs.Lines.{blankCell}
-use Rattle.links.specs.declared.Met.{Met}
+use Rattle.links.specs.declared.Drawn.{Drawn}
 use Rattle.links.specs.declared.AncestorColumnBounds.{AncestorColumnBounds}
 use Rattle.links.specs.declared.Swap.{Swap}
 use Rattle.render.specs.Refusals.{Check, _when_, refusal}
-use Rattle.shaper.specs.Shaper.{View, isNothing, refusedOptions}
+use Rattle.shaper.specs.Shaper.{View, viewAfter, isNothing, refusedOptions}
 use Rattle.shaper.specs.NodeColumn.{head}
 use Rattle.cells.specs.Cells.{cellOf, cellsFrom}
-use Rattle.placing.specs.Placing.{dashed, Placed, place, drawsAt}
+use Rattle.placing.specs.Placing.{dashed, Placed, place, kindOf, drawsAt}
 use Rattle.links.specs.Links.{boundsOf, isAt, linked}
 
 -- "The separator flag: no column held before, height at most 1, no staggering, same column as the previous node, no Anonymous entry."
@@ -30,7 +30,7 @@ abbrev pub shapeAt : View → ℕ → List Entry → Placed → RowShape
 shapeAt v n es p =
     let c : ℕ = p .column in
     let w : ℕ = length (p .walked) in
-    let draws : ℕ → Met = drawsAt (p .up) c es (p .bare) in
+    let draws : ℕ → Drawn = λ i. kindOf (drawsAt (p .up) c es (p .bare) i) in
     let r : AncestorColumnBounds = boundsOf (cellsFrom draws 0 w) c in
     let s : Swap = record { «given_up» = p .up; «was_direct» = isParent (at (p .bare) (orElse (p .up) c)) } in
     record {
@@ -78,7 +78,7 @@ rowChecks es p = (3 when tooMany es) ∷ (4 when ltb columnLimit (length (p .wal
 
 -- the shaper after a row: "`reset` ends every row."
 abbrev pub rowAfter : View → Placed → View
-rowAfter v p = record { columns = reset (dashed (v .style .«dash_style») (p .settled)); previous = At (p .column); height = v .height; stagger = v .stagger; style = v .style }
+rowAfter v p = viewAfter v (reset (dashed (v .style .«dash_style») (p .settled))) (At (p .column))
 
 -- "A refusal gives its number, .. a shape without cells .., and changes no state"
 abbrev pub rowAnswer : ℕ → View → ℕ → List Entry → Placed → RowReply

@@ -1,18 +1,16 @@
 // The row call by value, after graph_to_row_shape.rs.
 ghost use mathlib.Core.Path.{_≡_};
-ghost use Prim.Native.Nat.{_≤_};
-ghost use Rattle.column.specs.Columns.{columnLimit, live, reset};
-ghost use Rattle.column.specs.Codes.{slotsIn};
-ghost use Rattle.placing.specs.Placing.{dashed};
-ghost use Rattle.shaper.specs.Shaper.{viewOf};
-ghost use Rattle.row_shape.specs.Row.{separator, noShape};
-ghost use Rattle.row_shape.specs.Inner.{Places, Accepts};
+ghost use Rattle.row_shape.specs.Row.{noShape};
+ghost use Rattle.row_shape.specs.Inner.{separatorWith};
 ghost use Rattle.row_shape.specs.Promises.{Rows};
+use cells::cell;
 use column::COLUMN_LIMIT;
 use column::Found;
+use column::Slot;
 use links::AncestorColumnBounds;
+use links::ParentColumn;
+use links::Swap;
 use render::Cell;
-use render::DashStyle;
 use render::Entries;
 use render::Options;
 use render::RowShape;
@@ -27,13 +25,6 @@ pub struct RowAnswer {
     pub refusal: u8,
     pub shape: RowShape,
     pub shaper: Shaper,
-}
-
-// Where a row's node goes: the column that held its id, the node's column where there is room for it, and whether it is a head.
-struct NodePlace {
-    existing: Found,
-    column: Found,
-    is_head: bool,
 }
 
 // A shape without cells.
@@ -58,19 +49,6 @@ fn no_shape() -> RowShape
     }
 }
 
-// What ends a row: with Once dashes Ancestor columns turn Parent, then the columns are reset. Gives the count then.
-fn ended(codes: &mut [u64; COLUMN_LIMIT], count: usize, dash_style: DashStyle) -> usize
-    ensures { λ r. ⌜ (r ≤ columnLimit) × (live r (slotsIn (now (codes .exit))) ≡ reset (dashed «dash_style» (live count (slotsIn (now (codes .entry)))))) ⌝ }
-{
-    match dash_style {
-        DashStyle::Persistent => column::reset(codes, count),
-        DashStyle::Once => {
-            column::convert_ancestor_to_parent(codes, count);
-            column::reset(codes, count)
-        }
-    }
-}
-
 // A row that is refused.
 fn refused_row(shaper: Shaper, refusal: u8) -> RowAnswer
     ensures { λ r. ⌜ r ≡ record { refusal = refusal; shape = noShape; shaper = shaper } ⌝ }
@@ -83,99 +61,138 @@ fn refused_row(shaper: Shaper, refusal: u8) -> RowAnswer
     }
 }
 
-// A row that is accepted: its shape, and the shaper after it, from the words of its columns.
-fn accepted_row(options: Options, shape: RowShape, codes: &mut [u64; COLUMN_LIMIT]) -> RowAnswer
-    ensures { λ r. ⌜ Accepts options shape (live (shape .width) (slotsIn (now (codes .entry)))) r ⌝ }
-{
-    let style = options.graph_row_shape_style;
-    let dash_style = style.dash_style;
-    let count = ended(codes, shape.width, dash_style);
-    let slots = column::slots_of(codes, count);
-    let previous_node_column = Found::At(shape.node_column);
-    let shaper = Shaper {
-        slots,
-        count,
-        previous_node_column,
-        options,
-    };
-    RowAnswer {
-        refusal: ACCEPTED,
-        shape,
-        shaper,
-    }
-}
-
-// Writes the shaper's columns as words, and finds the node's.
-fn place_node(shaper: Shaper, node: u32, codes: &mut [u64; COLUMN_LIMIT]) -> NodePlace
-    ensures { λ r. ⌜ Places shaper node (now (codes .exit)) r ⌝ }
-{
-    let slots = shaper.slots;
-    let count = shaper.count;
-    let options = shaper.options;
-    let previous = shaper.previous_node_column;
-    column::write_codes(codes, slots, count);
-    let existing = column::find(codes, count, node);
-    let column = find_column(codes, count, options, previous, existing);
-    NodePlace {
-        existing,
-        column,
-        is_head: shaper::is_head(codes, count, existing),
-    }
-}
-
 // Whether the row needs a separator from the row before.
-fn separator_line(shaper: Shaper, place: NodePlace, column: usize, need_term_line: bool) -> bool
-    ensures { λ r. ⌜ r ≡ separator (viewOf shaper) (place .existing) column «need_term_line» ⌝ }
+fn separator_line(
+    options: Options,
+    previous: Found,
+    existing: Found,
+    column: usize,
+    need_term_line: bool,
+) -> bool
+    ensures { λ r. ⌜ r ≡ separatorWith options previous existing column «need_term_line» ⌝ }
 {
-    let options = shaper.options;
-    let previous = shaper.previous_node_column;
-    let existing = place.existing;
-    let stagger = options.stagger_consecutive_disconnected_nodes;
     let Found::Nothing = existing else {
         return false;
     };
+    let stagger = options.stagger_consecutive_disconnected_nodes;
     (options.min_row_height <= 1) & (!stagger & (links::is_at(previous, column) & !need_term_line))
 }
 
-// The row call: the next node as a row shape.
+// The row call: the next node as a row shape. One function owns the slots and who draws in them, and walks the entries and the cells: a
+// function that was given them and gave them back would copy the arrays several times for each row.
 pub fn next_row_shape(shaper: Shaper, node: u32, entries: Entries) -> RowAnswer
     ensures { λ r. ⌜ Rows shaper node entries r ⌝ }
 {
     if entries.are_too_many() {
         return refused_row(shaper, TOO_MANY_ENTRIES);
     }
-    let mut codes = [0u64; COLUMN_LIMIT];
-    let place = place_node(shaper, node, &mut codes);
-    let found = place.column;
-    let Found::At(column) = found else {
+    let options = shaper.options;
+    let previous = shaper.previous_node_column;
+    let old_slots = shaper.slots;
+    let held = shaper.count;
+    let live = column::live_count(held);
+    let existing = column::find(old_slots, held, node);
+    let Found::At(column) = find_column(old_slots, held, options, previous, existing) else {
         return refused_row(shaper, NODE_LINE_TOO_WIDE);
     };
-    let live = placing::open(&mut codes, shaper.count, column);
-    let bare = codes;
-    let mut parents = [0u64; COLUMN_LIMIT];
-    let walked = placing::walk(&mut codes, &mut parents, live, column, entries);
-    if !walked.fits {
-        return refused_row(shaper, NODE_LINE_TOO_WIDE);
-    }
+    let node_slot = old_slots[column];
+    let node_column = node_slot.column;
+    let is_head = shaper::is_head(existing, node_column);
+    // the node's column becomes Empty, and so does a placeholder before a new last one
+    let mut slots = old_slots;
+    let beside = placing::placeholder(live, column);
+    slots[beside] = Slot::empty();
+    slots[column] = Slot::empty();
+    let mut count = column::count_with(live, column);
+    // then entries go in order
+    let nobody = ParentColumn::nobody();
+    let mut parents = [nobody; COLUMN_LIMIT];
+    let mut parent_column: usize = 0;
+    let mut need_term_line = false;
     let n = entries.count;
-    let spot = walked.spot;
-    let swap = placing::settle(&mut codes, &mut parents, &bare, live, spot, column, n);
-    let bounds = AncestorColumnBounds::new(&parents, walked.count, column);
-    let cells = cells::cells(bounds, swap, &parents, &bare, live, &codes, walked.count);
-    let options = shaper.options;
+    let mut i: usize = 0;
+    while i < n {
+        let entry = entries.list[i];
+        let ancestor = entry.ancestor;
+        let index = placing::parent_column(slots, count, column, ancestor);
+        if COLUMN_LIMIT <= index {
+            return refused_row(shaper, NODE_LINE_TOO_WIDE);
+        }
+        let slot = slots[index];
+        slots[index] = placing::entered(slot, index, count, ancestor);
+        count = column::count_with(count, index);
+        parents[index] = ParentColumn::drawn_by(ancestor);
+        parent_column = index;
+        need_term_line = need_term_line | ancestor.is_anonymous();
+        i += 1;
+    }
+    // a single entry whose column lies right of the node swaps columns with it; else the node's changes places with itself
+    let given_up = placing::given_up(n, parent_column, column);
+    let other = placing::or_else(given_up, column);
+    let was = old_slots[other];
+    let old = placing::column_before(was, other, live, column);
+    let swap = Swap {
+        given_up,
+        was_direct: old.is_parent(),
+    };
+    let own_slot = slots[column];
+    let other_slot = slots[other];
+    slots[column] = other_slot;
+    slots[other] = own_slot;
+    let drawn_in = parents[other];
+    parents[other] = nobody;
+    parents[column] = drawn_in;
+    let bounds = AncestorColumnBounds::new(parents, count, column);
+    let need_link_line = bounds.need_link_line(swap);
+    let blank = Cell::blank();
+    let mut cells = [blank; COLUMN_LIMIT];
+    let mut k: usize = 0;
+    while k < count {
+        let bare = old_slots[k];
+        let bare_column = placing::column_before(bare, k, live, column);
+        let settled = slots[k];
+        let settled_column = settled.column;
+        let parent = parents[k];
+        let drawn = parent.drawn;
+        cells[k] = cell(
+            need_link_line,
+            bounds,
+            swap,
+            k,
+            drawn,
+            bare_column,
+            settled_column,
+        );
+        k += 1;
+    }
     let style = options.graph_row_shape_style;
+    let dash_style = style.dash_style;
+    let separator_line = separator_line(options, previous, existing, column, need_term_line);
     let shape = RowShape {
         node,
         merge: 1 < n,
-        separator_line: separator_line(shaper, place, column, walked.anonymous),
+        separator_line,
         style,
-        is_head: place.is_head,
+        is_head,
         is_root: n == 0,
         node_column: column,
-        width: walked.count,
-        link_line: bounds.need_link_line(swap),
-        term_line: walked.anonymous,
+        width: count,
+        link_line: need_link_line,
+        term_line: need_term_line,
         cells,
     };
-    accepted_row(options, shape, &mut codes)
+    let columns = placing::ended(slots, count, dash_style);
+    let after = columns.slots;
+    let previous_node_column = Found::At(column);
+    let next = Shaper {
+        slots: after,
+        count: columns.count,
+        previous_node_column,
+        options,
+    };
+    RowAnswer {
+        refusal: ACCEPTED,
+        shape,
+        shaper: next,
+    }
 }

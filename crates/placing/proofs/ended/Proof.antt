@@ -61,8 +61,7 @@ loop-again : tie.Need-loop-again Inv-loop μ-loop Inv-loop2 μ-loop2
 loop-again c =
     let l = c .before .before .before .before in
     let v = l .loop in
-    let a = l .before .before .before .args in
-    (
+    let a = l .before .before .before .args in (
       omega arith,
       v .inv .1,
       filled-next _ (v .slots) (v .at) _ (omega arith) (rw length-map (omega arith)) (stored (a .dash-style) _ _ _ (c .with-column .ensures) (c .before .ended-column .ensures) ∙ sym (turned-at (a .dash-style) (a .t1) (v .at) (omega arith))) (v .inv .2),

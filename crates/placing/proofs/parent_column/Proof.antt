@@ -51,9 +51,11 @@ loop-less c = search needs
 loop-again : tie.Need-loop-again Inv-loop μ-loop
 loop-again c = let l = c .before .before .before .before in
     let a = l .before .before .args in
-    let i = l .loop .i in
-    (omega arith, l .loop .inv .1 ∙ first-miss (holdsEntry (a .ancestor)) (live (a .count) (a .t1)) i (live-below (a .count) (a .t1) i (omega arith) (omega arith))
-    (rw (live-at (a .count) (a .t1) i (omega arith) (omega arith)) (sym (c .before .holds-entry .ensures) ∙ c .if1 .left)))
+    let i = l .loop .i in (
+      omega arith,
+      l .loop .inv .1 ∙ first-miss (holdsEntry (a .ancestor)) (live (a .count) (a .t1)) i (live-below (a .count) (a .t1) i (omega arith) (omega arith))
+          (rw (live-at (a .count) (a .t1) i (omega arith) (omega arith)) (sym (c .before .holds-entry .ensures) ∙ c .if1 .left)),
+    )
 
 find-empty-requires : tie.Need-find-empty-requires Inv-loop μ-loop
 find-empty-requires c κs = search needs

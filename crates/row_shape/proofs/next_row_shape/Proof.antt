@@ -1,105 +1,427 @@
+-- The row call: the walk over the entries keeps `Going`, the loop over the cells keeps the cells that are stored.
 use borrow.Author.Needs.{needs}
 use Rattle.row_shape.proofs.next_row_shape.Statement.{statement}
 use Rattle.row_shape.proofs.next_row_shape.Tie as tie
-use mathlib.Core.Path.{refl, sym, _∙_}
-use lib.Dec.{eqb}
-use borrow.Author.Tests.{not-true, not-false}
-use Rattle.shaper.proofs.Laws.{entries-long, few}
-use Rattle.placing.proofs.PlacingLaws.{settled-long}
-use Rattle.row_shape.proofs.NextRow.{row-too-many, row-no-column, row-no-room, row-done}
+use Prim.Native.Nat.{_≤_, _-_}
+use mathlib.Core.Path.{_≡_, refl, ap, sym, _∙_}
+use native.Mathlib.Omega.{arith}
+use lib.ListN.{length}
+use Rattle.column.specs.declared.Column.the-variants.{Empty}
+use Rattle.column.specs.Columns.{columnLimit, isParent, put, live}
+use Rattle.render.specs.Entries.{given}
+use Rattle.shaper.proofs.Laws.{slots-long, entries-long}
+use Rattle.placing.proofs.PlacingLaws.{Going, going-over, going-next}
+use Rattle.row_shape.proofs.NextRow.{row-too-many, row-no-column, column-within, Begun, begun, bare, count-within, row-start, entry-next, row-walked, row-no-room, other-within, row-done, Drawing, drawing-start, drawing-next}
 
-are-too-many-requires : tie.Need-are-too-many-requires
+abbrev Inv-loop : tie.InvT-loop
+Inv-loop shaper node entries options previous old-slots held m existing column is-head slots₀ beside count₀ nobody parents₀ last₀ said₀ n i₀ slots count parents last said i =
+    (i ≤ n) × Begun shaper node entries existing column m × Going (put (live m (shaper .slots)) column Empty) column (given entries) i slots count parents last said
+
+abbrev μ-loop : tie.MeasureT-loop
+μ-loop shaper node entries options previous old-slots held m existing column is-head slots₀ beside count₀ nobody parents₀ last₀ said₀ n i₀ slots count parents last said i = n - i
+
+abbrev Inv-loop2 : tie.InvT-loop2
+Inv-loop2 node options previous old-slots held m existing column is-head slots beside count parents last said n i other swap bounds need cells₀ k₀ cells k =
+    Drawing need bounds swap parents old-slots slots m column count cells k
+
+abbrev μ-loop2 : tie.MeasureT-loop2
+μ-loop2 node options previous old-slots held m existing column is-head slots beside count parents last said n i other swap bounds need cells₀ k₀ cells k = count - k
+
+are-too-many-requires : tie.Need-are-too-many-requires Inv-loop μ-loop Inv-loop2 μ-loop2
 are-too-many-requires c κs = search needs
 
-refused-row-requires : tie.Need-refused-row-requires
+refused-row-requires : tie.Need-refused-row-requires Inv-loop μ-loop Inv-loop2 μ-loop2
 refused-row-requires c κs = search needs
 
-returns : tie.Need-returns
+returns : tie.Need-returns Inv-loop μ-loop Inv-loop2 μ-loop2
 returns c = let a = c .before .before .before .args in
-    row-too-many (a .shaper) (a .node) (a .entries) _ (sym (c .before .before .are-too-many .ensures) ∙ c .before .if1 .taken) (c .refused-row .ensures)
+    row-too-many (a .shaper) (a .node) (a .t3) _ (sym (c .before .before .are-too-many .ensures) ∙ c .before .if1 .taken) (c .refused-row .ensures)
 
-place-node-requires : tie.Need-place-node-requires
-place-node-requires c κs = search needs
+live-count-requires : tie.Need-live-count-requires Inv-loop μ-loop Inv-loop2 μ-loop2
+live-count-requires c κs = search needs
 
-enum-known-found : tie.Need-enum-known-found
-enum-known-found c = search needs
+find-requires : tie.Need-find-requires Inv-loop μ-loop Inv-loop2 μ-loop2
+find-requires c κs = search needs
 
-enum-told : tie.Need-enum-told
+find-column-requires : tie.Need-find-column-requires Inv-loop μ-loop Inv-loop2 μ-loop2
+find-column-requires c κs = search needs
+
+enum-known-column : tie.Need-enum-known-column Inv-loop μ-loop Inv-loop2 μ-loop2
+enum-known-column c = search needs
+
+enum-told : tie.Need-enum-told Inv-loop μ-loop Inv-loop2 μ-loop2
 enum-told c = search needs
 
-refused-row-requires-2 : tie.Need-refused-row-requires-2
+refused-row-requires-2 : tie.Need-refused-row-requires-2 Inv-loop μ-loop Inv-loop2 μ-loop2
 refused-row-requires-2 c κs = search needs
 
-returns-2 : tie.Need-returns-2
-returns-2 c = let a = c .before .before .before .before .before .before .before .args in
-    let p = c .before .before .before .place-node .ensures in
-    row-no-column (a .shaper) (a .node) (a .entries) (sym (c .before .before .before .before .before .before .are-too-many .ensures) ∙ c .before .before .before .before .before .if1 .left) _ _ _ (p .held) (p .place) (c .before .enum-told .given .1) (c .refused-row2 .ensures)
+returns-2 : tie.Need-returns-2 Inv-loop μ-loop Inv-loop2 μ-loop2
+returns-2 c = let f = c .before .before .before in
+    let a = f .before .before .before .before .before .before .before .args in
+    row-no-column (a .shaper) (a .node) (a .t3) (sym (f .before .before .before .before .before .before .are-too-many .ensures) ∙ f .before .before .before .before .before .if1 .left) _ _ _ (f .before .find .ensures) (f .find-column .ensures) (c .before .enum-told .given .1) (c .refused-row2 .ensures)
 
-open-requires : tie.Need-open-requires
-open-requires c κs = search needs
+mul-node-slot : tie.Need-mul-node-slot Inv-loop μ-loop Inv-loop2 μ-loop2
+mul-node-slot c = omega (arith, (column-within _ _ _ (c .before .before .before .find-column .ensures) (c .before .column .given .1)))
 
-walk-requires : tie.Need-walk-requires
-walk-requires c κs = search needs
+array-copy-out-node-slot : tie.Need-array-copy-out-node-slot Inv-loop μ-loop Inv-loop2 μ-loop2
+array-copy-out-node-slot c = (column-within _ _ _ (c .before .before .before .find-column .ensures) (c .before .column .given .1))
 
-refused-row-requires-3 : tie.Need-refused-row-requires-3
+is-head-requires : tie.Need-is-head-requires Inv-loop μ-loop Inv-loop2 μ-loop2
+is-head-requires c κs = search needs
+
+placeholder-requires : tie.Need-placeholder-requires Inv-loop μ-loop Inv-loop2 μ-loop2
+placeholder-requires c κs = search needs
+
+empty-requires : tie.Need-empty-requires Inv-loop μ-loop Inv-loop2 μ-loop2
+empty-requires c κs = search needs
+
+mul-slots : tie.Need-mul-slots Inv-loop μ-loop Inv-loop2 μ-loop2
+mul-slots c = omega (arith, (column-within _ _ _ (c .before .before .before .before .before .before .before .find-column .ensures) (c .before .before .before .before .before .column .given .1)), c .before .placeholder .ensures)
+
+array-set-from-slots : tie.Need-array-set-from-slots Inv-loop μ-loop Inv-loop2 μ-loop2
+array-set-from-slots c = omega (arith, (column-within _ _ _ (c .before .before .before .before .before .before .before .find-column .ensures) (c .before .before .before .before .before .column .given .1)), c .before .placeholder .ensures)
+
+empty-requires-2 : tie.Need-empty-requires-2 Inv-loop μ-loop Inv-loop2 μ-loop2
+empty-requires-2 c κs = search needs
+
+mul-slots-2 : tie.Need-mul-slots-2 Inv-loop μ-loop Inv-loop2 μ-loop2
+mul-slots-2 c = omega (arith, (column-within _ _ _ (c .before .before .before .before .before .before .before .before .find-column .ensures) (c .before .before .before .before .before .before .column .given .1)))
+
+array-set-from-slots-2 : tie.Need-array-set-from-slots-2 Inv-loop μ-loop Inv-loop2 μ-loop2
+array-set-from-slots-2 c = (column-within _ _ _ (c .before .before .before .before .before .before .before .before .find-column .ensures) (c .before .before .before .before .before .before .column .given .1))
+
+count-with-requires : tie.Need-count-with-requires Inv-loop μ-loop Inv-loop2 μ-loop2
+count-with-requires c κs = search needs
+
+nobody-requires : tie.Need-nobody-requires Inv-loop μ-loop Inv-loop2 μ-loop2
+nobody-requires c κs = search needs
+
+loop-holds : tie.Need-loop-holds Inv-loop μ-loop Inv-loop2 μ-loop2
+loop-holds c = let f = c .before .before .before .before .before .before .before .before .before .before in
+    let a = f .before .before .before .before .before .before .before .args in
+    let b = begun (a .shaper) (a .node) (a .t3) _ _ _ _ (sym (f .before .before .before .before .before .before .are-too-many .ensures) ∙ f .before .before .before .before .before .if1 .left) (f .before .find .ensures) (f .find-column .ensures) (c .before .before .before .before .before .before .before .before .column .given .1) (f .before .before .live-count .ensures)
+    (slots-long (a .shaper .slots) (f .before .before .before .before .before .before .before .good .0 .1 .1 .0 .1 .0 .1)) (entries-long (a .t3 .list) (f .before .before .before .before .before .before .before .good .1 .1 .0 .1 .1 .0 .1 .0 .1)) in (
+      omega arith,
+      b,
+      rw (c .before .before .empty2 .ensures, c .before .before .before .empty .ensures)
+          (row-start (a .shaper) (a .node) (a .t3) _ _ _ b (c .before .before .before .before .placeholder .result) (c .before .count-with .result) _ (c .before .before .before .before .placeholder .ensures) (c .before .count-with .ensures) (rw (c .nobody .ensures))),
+    )
+
+mul-entry : tie.Need-mul-entry Inv-loop μ-loop Inv-loop2 μ-loop2
+mul-entry c = let l = c .before in
+    let a = l .before .before .before .before .before .before .before .before .before .before .before .before .before .before .before .before .before .before .args in
+    omega (arith, c .loop-test .taken, count-within (a .shaper) (a .node) (a .t3) _ _ _ (l .loop .inv .1))
+
+element-copy-out-entry : tie.Need-element-copy-out-entry Inv-loop μ-loop Inv-loop2 μ-loop2
+element-copy-out-entry c = let l = c .before in
+    let a = l .before .before .before .before .before .before .before .before .before .before .before .before .before .before .before .before .before .before .args in
+    omega (arith, c .loop-test .taken, count-within (a .shaper) (a .node) (a .t3) _ _ _ (l .loop .inv .1))
+
+parent-column-requires : tie.Need-parent-column-requires Inv-loop μ-loop Inv-loop2 μ-loop2
+parent-column-requires c κs = search needs
+
+refused-row-requires-3 : tie.Need-refused-row-requires-3 Inv-loop μ-loop Inv-loop2 μ-loop2
 refused-row-requires-3 c κs = search needs
 
-returns-3 : tie.Need-returns-3
-returns-3 c = let a = c .before .before .before .before .before .before .before .before .before .before .before .before .before .before .before .args in
-    let p = c .before .before .before .before .before .before .before .before .before .before .before .place-node .ensures in
-    row-no-room (a .shaper) (a .node) (a .entries) (sym (c .before .before .before .before .before .before .before .before .before .before .before .before .before .before .are-too-many .ensures) ∙ c .before .before .before .before .before .before .before .before .before .before .before .before .before .if1 .left) _ _ _ (p .held) (p .place) (c .before .before .before .before .before .before .before .before .before .found .given .1) _ (p .same) _ (c .before .before .before .before .before .before .«open» .ensures) _ _
-    (c .before .before .before .walk .ensures) (not-true _ (c .before .if2 .taken)) (c .refused-row3 .ensures)
+returns-3 : tie.Need-returns-3 Inv-loop μ-loop Inv-loop2 μ-loop2
+returns-3 c = let l = c .before .before .before .before .before in
+    let v = l .loop in
+    let a = l .before .before .before .before .before .before .before .before .before .before .before .before .before .before .before .before .before .before .args in
+    let b = v .inv .1 in
+    let bs = bare (a .shaper) (a .node) (a .t3) _ _ _ b in
+    let h = c .before .before .before .before .loop-test .taken in
+    row-no-room (a .shaper) (a .node) (a .t3) _ _ _ b _ (going-over bs _ (given (a .t3)) (v .i) (v .slots) (v .count) (v .parents) (v .parent-column) (v .need-term-line) (v .inv .2) _ (entry-next (a .shaper) (a .node) (a .t3) _ _ _ b (v .i) _ h) _ (c .before .before .parent-column .ensures) (c .before .if2 .taken)) (c .refused-row3 .ensures)
 
-settle-requires : tie.Need-settle-requires
-settle-requires c κs = search needs
+mul-slot : tie.Need-mul-slot Inv-loop μ-loop Inv-loop2 μ-loop2
+mul-slot c = search needs
 
-slice-aggregate-new : tie.Need-slice-aggregate-new
-slice-aggregate-new c = settled-long _ _ _ _ (eqb (c .before .before .before .before .before .before .before .before .before .before .before .before .before .before .before .before .before .before .before .args .entries .count) 1) _ (c .before .settle .last .1 .0) (c .before .before .before .before .before .before .before .walk .ensures) (c .before .settle .ensures) refl
+array-copy-out-slot : tie.Need-array-copy-out-slot Inv-loop μ-loop Inv-loop2 μ-loop2
+array-copy-out-slot c = search needs
 
-new-requires : tie.Need-new-requires
+entered-requires : tie.Need-entered-requires Inv-loop μ-loop Inv-loop2 μ-loop2
+entered-requires c κs = search needs
+
+mul-slots-3 : tie.Need-mul-slots-3 Inv-loop μ-loop Inv-loop2 μ-loop2
+mul-slots-3 c = search needs
+
+array-set-from-slots-3 : tie.Need-array-set-from-slots-3 Inv-loop μ-loop Inv-loop2 μ-loop2
+array-set-from-slots-3 c = search needs
+
+count-with-requires-2 : tie.Need-count-with-requires-2 Inv-loop μ-loop Inv-loop2 μ-loop2
+count-with-requires-2 c κs = search needs
+
+drawn-by-requires : tie.Need-drawn-by-requires Inv-loop μ-loop Inv-loop2 μ-loop2
+drawn-by-requires c κs = search needs
+
+array-set-from-parents : tie.Need-array-set-from-parents Inv-loop μ-loop Inv-loop2 μ-loop2
+array-set-from-parents c = search needs
+
+is-anonymous-requires : tie.Need-is-anonymous-requires Inv-loop μ-loop Inv-loop2 μ-loop2
+is-anonymous-requires c κs = search needs
+
+add-i : tie.Need-add-i Inv-loop μ-loop Inv-loop2 μ-loop2
+add-i c = let l = c .before .before .before .before .before .before .before .before .before in
+    let a = l .before .before .before .before .before .before .before .before .before .before .before .before .before .before .before .before .before .before .args in
+    omega (arith, c .before .before .before .before .before .before .before .before .loop-test .taken, count-within (a .shaper) (a .node) (a .t3) _ _ _ (l .loop .inv .1))
+
+loop-less : tie.Need-loop-less Inv-loop μ-loop Inv-loop2 μ-loop2
+loop-less c = omega (arith, c .before .before .before .before .before .before .before .before .loop-test .taken)
+
+loop-again : tie.Need-loop-again Inv-loop μ-loop Inv-loop2 μ-loop2
+loop-again c = let l = c .before .before .before .before .before .before .before .before .before in
+    let v = l .loop in
+    let a = l .before .before .before .before .before .before .before .before .before .before .before .before .before .before .before .before .before .before .args in
+    let b = v .inv .1 in
+    let bs = bare (a .shaper) (a .node) (a .t3) _ _ _ b in
+    let h = c .before .before .before .before .before .before .before .before .loop-test .taken in (
+      omega (arith, h),
+      b,
+      going-next bs _ (given (a .t3)) (v .i) (v .slots) (v .count) (v .parents) (v .parent-column) (v .need-term-line) (v .inv .2) _ (entry-next (a .shaper) (a .node) (a .t3) _ _ _ b (v .i) _ h) _ (c .before .before .before .before .before .before .parent-column .ensures) (omega (arith, c .before .before .before .before .before .if2 .left)) _ (c .before .before .count-with2 .ensures) _ (c .before .before .before .entered .ensures) _ (c .before .drawn-by .ensures) _ (c .is-anonymous .ensures),
+    )
+
+given-up-requires : tie.Need-given-up-requires Inv-loop μ-loop Inv-loop2 μ-loop2
+given-up-requires c κs = search needs
+
+or-else-requires : tie.Need-or-else-requires Inv-loop μ-loop Inv-loop2 μ-loop2
+or-else-requires c κs = search needs
+
+mul-was : tie.Need-mul-was Inv-loop μ-loop Inv-loop2 μ-loop2
+mul-was c = let t = c .before .before in
+    let v = t .before .loop in
+    let a = t .before .before .before .before .before .before .before .before .before .before .before .before .before .before .before .before .before .before .before .args in
+    let b = v .inv .1 in
+    let g = row-walked (a .shaper) (a .node) (a .t3) _ _ _ b _ _ _ _ _ _ (v .inv .2) (t .loop-test .left) in
+    omega (arith, other-within (a .shaper) (a .node) (a .t3) _ _ _ b _ _ _ _ _ g _ (c .before .given-up .ensures) _ (c .or-else .ensures))
+
+array-copy-out-was : tie.Need-array-copy-out-was Inv-loop μ-loop Inv-loop2 μ-loop2
+array-copy-out-was c = let t = c .before .before in
+    let v = t .before .loop in
+    let a = t .before .before .before .before .before .before .before .before .before .before .before .before .before .before .before .before .before .before .before .args in
+    let b = v .inv .1 in
+    let g = row-walked (a .shaper) (a .node) (a .t3) _ _ _ b _ _ _ _ _ _ (v .inv .2) (t .loop-test .left) in
+    other-within (a .shaper) (a .node) (a .t3) _ _ _ b _ _ _ _ _ g _ (c .before .given-up .ensures) _ (c .or-else .ensures)
+
+column-before-requires : tie.Need-column-before-requires Inv-loop μ-loop Inv-loop2 μ-loop2
+column-before-requires c κs = search needs
+
+is-parent-requires : tie.Need-is-parent-requires Inv-loop μ-loop Inv-loop2 μ-loop2
+is-parent-requires c κs = search needs
+
+mul-own-slot : tie.Need-mul-own-slot Inv-loop μ-loop Inv-loop2 μ-loop2
+mul-own-slot c = omega (arith, c .before .before .before .before .before .before .loop .inv .1 .within)
+
+array-copy-out-own-slot : tie.Need-array-copy-out-own-slot Inv-loop μ-loop Inv-loop2 μ-loop2
+array-copy-out-own-slot c = c .before .before .before .before .before .before .loop .inv .1 .within
+
+mul-other-slot : tie.Need-mul-other-slot Inv-loop μ-loop Inv-loop2 μ-loop2
+mul-other-slot c = let t = c .before .before .before .before .before .before in
+    let v = t .before .loop in
+    let a = t .before .before .before .before .before .before .before .before .before .before .before .before .before .before .before .before .before .before .before .args in
+    let b = v .inv .1 in
+    let g = row-walked (a .shaper) (a .node) (a .t3) _ _ _ b _ _ _ _ _ _ (v .inv .2) (t .loop-test .left) in
+    omega (arith, other-within (a .shaper) (a .node) (a .t3) _ _ _ b _ _ _ _ _ g _ (c .before .before .before .before .before .given-up .ensures) _ (c .before .before .before .before .or-else .ensures))
+
+array-copy-out-other-slot : tie.Need-array-copy-out-other-slot Inv-loop μ-loop Inv-loop2 μ-loop2
+array-copy-out-other-slot c = let t = c .before .before .before .before .before .before in
+    let v = t .before .loop in
+    let a = t .before .before .before .before .before .before .before .before .before .before .before .before .before .before .before .before .before .before .before .args in
+    let b = v .inv .1 in
+    let g = row-walked (a .shaper) (a .node) (a .t3) _ _ _ b _ _ _ _ _ _ (v .inv .2) (t .loop-test .left) in
+    other-within (a .shaper) (a .node) (a .t3) _ _ _ b _ _ _ _ _ g _ (c .before .before .before .before .before .given-up .ensures) _ (c .before .before .before .before .or-else .ensures)
+
+mul-slots-4 : tie.Need-mul-slots-4 Inv-loop μ-loop Inv-loop2 μ-loop2
+mul-slots-4 c = omega (arith, c .before .before .before .before .before .before .before .before .loop .inv .1 .within)
+
+array-set-from-slots-4 : tie.Need-array-set-from-slots-4 Inv-loop μ-loop Inv-loop2 μ-loop2
+array-set-from-slots-4 c = c .before .before .before .before .before .before .before .before .loop .inv .1 .within
+
+mul-slots-5 : tie.Need-mul-slots-5 Inv-loop μ-loop Inv-loop2 μ-loop2
+mul-slots-5 c = let t = c .before .before .before .before .before .before .before in
+    let v = t .before .loop in
+    let a = t .before .before .before .before .before .before .before .before .before .before .before .before .before .before .before .before .before .before .before .args in
+    let b = v .inv .1 in
+    let g = row-walked (a .shaper) (a .node) (a .t3) _ _ _ b _ _ _ _ _ _ (v .inv .2) (t .loop-test .left) in
+    omega (arith, other-within (a .shaper) (a .node) (a .t3) _ _ _ b _ _ _ _ _ g _ (c .before .before .before .before .before .before .given-up .ensures) _ (c .before .before .before .before .before .or-else .ensures))
+
+array-set-from-slots-5 : tie.Need-array-set-from-slots-5 Inv-loop μ-loop Inv-loop2 μ-loop2
+array-set-from-slots-5 c = let t = c .before .before .before .before .before .before .before in
+    let v = t .before .loop in
+    let a = t .before .before .before .before .before .before .before .before .before .before .before .before .before .before .before .before .before .before .before .args in
+    let b = v .inv .1 in
+    let g = row-walked (a .shaper) (a .node) (a .t3) _ _ _ b _ _ _ _ _ _ (v .inv .2) (t .loop-test .left) in
+    other-within (a .shaper) (a .node) (a .t3) _ _ _ b _ _ _ _ _ g _ (c .before .before .before .before .before .before .given-up .ensures) _ (c .before .before .before .before .before .or-else .ensures)
+
+array-copy-out-drawn-in : tie.Need-array-copy-out-drawn-in Inv-loop μ-loop Inv-loop2 μ-loop2
+array-copy-out-drawn-in c = let t = c .before .before .before .before .before .before .before in
+    let v = t .before .loop in
+    let a = t .before .before .before .before .before .before .before .before .before .before .before .before .before .before .before .before .before .before .before .args in
+    let b = v .inv .1 in
+    let g = row-walked (a .shaper) (a .node) (a .t3) _ _ _ b _ _ _ _ _ _ (v .inv .2) (t .loop-test .left) in
+    other-within (a .shaper) (a .node) (a .t3) _ _ _ b _ _ _ _ _ g _ (c .before .before .before .before .before .before .given-up .ensures) _ (c .before .before .before .before .before .or-else .ensures)
+
+array-set-from-parents-2 : tie.Need-array-set-from-parents-2 Inv-loop μ-loop Inv-loop2 μ-loop2
+array-set-from-parents-2 c = let t = c .before .before .before .before .before .before .before .before in
+    let v = t .before .loop in
+    let a = t .before .before .before .before .before .before .before .before .before .before .before .before .before .before .before .before .before .before .before .args in
+    let b = v .inv .1 in
+    let g = row-walked (a .shaper) (a .node) (a .t3) _ _ _ b _ _ _ _ _ _ (v .inv .2) (t .loop-test .left) in
+    other-within (a .shaper) (a .node) (a .t3) _ _ _ b _ _ _ _ _ g _ (c .before .before .before .before .before .before .before .given-up .ensures) _ (c .before .before .before .before .before .before .or-else .ensures)
+
+array-set-from-parents-3 : tie.Need-array-set-from-parents-3 Inv-loop μ-loop Inv-loop2 μ-loop2
+array-set-from-parents-3 c = c .before .before .before .before .before .before .before .before .before .loop .inv .1 .within
+
+new-requires : tie.Need-new-requires Inv-loop μ-loop Inv-loop2 μ-loop2
 new-requires c κs = search needs
 
-cells-requires : tie.Need-cells-requires
-cells-requires c κs = search needs
-
-separator-line-requires : tie.Need-separator-line-requires
-separator-line-requires c κs = search needs
-
-need-link-line-requires : tie.Need-need-link-line-requires
+need-link-line-requires : tie.Need-need-link-line-requires Inv-loop μ-loop Inv-loop2 μ-loop2
 need-link-line-requires c κs = search needs
 
-accepted-row-requires : tie.Need-accepted-row-requires
-accepted-row-requires c κs = search needs
+blank-requires : tie.Need-blank-requires Inv-loop μ-loop Inv-loop2 μ-loop2
+blank-requires c κs = search needs
 
-returns-4 : tie.Need-returns-4
-returns-4 c = let a = c .before .before .before .before .before .before .before .before .before .before .before .before .before .before .before .before .before .before .before .before .before .before .before .before .before .before .before .before .before .before .args in
-    let p = c .before .before .before .before .before .before .before .before .before .before .before .before .before .before .before .before .before .before .before .before .before .before .before .before .before .before .place-node .ensures in
-    let f = sym (c .before .before .before .before .before .before .before .before .before .before .before .before .before .before .before .before .before .before .before .before .before .before .before .before .before .before .before .before .before .are-too-many .ensures) ∙ c .before .before .before .before .before .before .before .before .before .before .before .before .before .before .before .before .before .before .before .before .before .before .before .before .before .before .before .before .if1 .left in
-    let fit = not-false _ (c .before .before .before .before .before .before .before .before .before .before .before .before .before .before .before .before .if2 .left) in
-    row-done (a .shaper) (a .node) (a .entries) f (few (a .entries) f) (entries-long (a .entries .list) (c .before .before .before .before .before .before .before .before .before .before .before .before .before .before .before .before .before .before .before .before .before .before .before .before .before .before .before .before .before .before .good .1 .1 .0 .1 .1 .0 .1 .0 .1)) _ _ _ (p .held) (p .place) (c .before .before .before .before .before .before .before .before .before .before .before .before .before .before .before .before .before .before .before .before .before .before .before .before .found .given .1) _ (p .same) _ (c .before .before .before .before .before .before .before .before .before .before .before .before .before .before .before .before .before .before .before .before .before .«open» .ensures) _
-    (c .before .before .before .before .before .before .before .before .before .before .before .before .before .before .before .before .before .before .walk .ensures) fit _ (c .before .before .before .before .before .before .before .before .before .before .before .before .settle .ensures) _ _ _ _ _ _ _ (c .before .before .before .before .before .before .before .before .before .before .before .before .before .before .before .before .before .before .walk .ensures .ends fit) (c .before .before .before .separator-line .ensures) (p .first) (c .before .before .before .before .before .before .before .before .before .before .new .ensures) (c .before .before .need-link-line .ensures) (c .before .before .before .before .before .before .cells .ensures) (c .accepted-row .ensures)
+loop2-holds : tie.Need-loop2-holds Inv-loop μ-loop Inv-loop2 μ-loop2
+loop2-holds c = let t = c .before .before .before .before .before .before .before .before .before .before .before in
+    let v = t .before .loop in
+    let a = t .before .before .before .before .before .before .before .before .before .before .before .before .before .before .before .before .before .before .before .args in
+    let b = v .inv .1 in
+    let g = row-walked (a .shaper) (a .node) (a .t3) _ _ _ b _ _ _ _ _ _ (v .inv .2) (t .loop-test .left) in
+    drawing-start _ _ _ _ _ _ _ _ _ _ _ (c .blank .ensures) (g .fits) refl
+
+mul-bare : tie.Need-mul-bare Inv-loop μ-loop Inv-loop2 μ-loop2
+mul-bare c = omega (arith, c .loop2-test .taken, c .before .loop2 .inv .fits)
+
+array-copy-out-bare : tie.Need-array-copy-out-bare Inv-loop μ-loop Inv-loop2 μ-loop2
+array-copy-out-bare c = omega (arith, c .loop2-test .taken, c .before .loop2 .inv .fits)
+
+column-before-requires-2 : tie.Need-column-before-requires-2 Inv-loop μ-loop Inv-loop2 μ-loop2
+column-before-requires-2 c κs = search needs
+
+mul-settled : tie.Need-mul-settled Inv-loop μ-loop Inv-loop2 μ-loop2
+mul-settled c = omega (arith, c .before .before .loop2-test .taken, c .before .before .before .loop2 .inv .fits)
+
+array-copy-out-settled : tie.Need-array-copy-out-settled Inv-loop μ-loop Inv-loop2 μ-loop2
+array-copy-out-settled c = omega (arith, c .before .before .loop2-test .taken, c .before .before .before .loop2 .inv .fits)
+
+array-copy-out-parent : tie.Need-array-copy-out-parent Inv-loop μ-loop Inv-loop2 μ-loop2
+array-copy-out-parent c = omega (arith, c .before .before .before .loop2-test .taken, c .before .before .before .before .loop2 .inv .fits)
+
+cell-requires : tie.Need-cell-requires Inv-loop μ-loop Inv-loop2 μ-loop2
+cell-requires c κs = search needs
+
+mul-cells : tie.Need-mul-cells Inv-loop μ-loop Inv-loop2 μ-loop2
+mul-cells c = omega (arith, c .before .before .before .before .before .loop2-test .taken, c .before .before .before .before .before .before .loop2 .inv .fits)
+
+array-set-from-cells : tie.Need-array-set-from-cells Inv-loop μ-loop Inv-loop2 μ-loop2
+array-set-from-cells c = omega (arith, c .before .before .before .before .before .loop2-test .taken, c .before .before .before .before .before .before .loop2 .inv .fits)
+
+add-k : tie.Need-add-k Inv-loop μ-loop Inv-loop2 μ-loop2
+add-k c = omega (arith, c .before .before .before .before .before .loop2-test .taken, c .before .before .before .before .before .before .loop2 .inv .fits)
+
+loop2-less : tie.Need-loop2-less Inv-loop μ-loop Inv-loop2 μ-loop2
+loop2-less c = omega (arith, c .before .before .before .before .before .loop2-test .taken, c .before .before .before .before .before .before .loop2 .inv .fits)
+
+loop2-again : tie.Need-loop2-again Inv-loop μ-loop Inv-loop2 μ-loop2
+loop2-again c = let v = c .before .before .before .before .before .before .loop2 in
+    drawing-next _ _ _ _ _ _ _ _ _ (v .cells) (v .k) _ _ (v .inv) (c .before .before .before .before .before .loop2-test .taken) (c .cell .ensures) (c .before .before .before .column-before2 .ensures)
+
+separator-line-requires : tie.Need-separator-line-requires Inv-loop μ-loop Inv-loop2 μ-loop2
+separator-line-requires c κs = search needs
+
+ended-requires : tie.Need-ended-requires Inv-loop μ-loop Inv-loop2 μ-loop2
+ended-requires c κs = search needs
+
+returns-4 : tie.Need-returns-4 Inv-loop μ-loop Inv-loop2 μ-loop2
+returns-4 c = let t = c .before .before .before .before .before .before .before .before .before .before .before .before .before .before .before .before .before in
+    let v = t .before .loop in
+    let a = t .before .before .before .before .before .before .before .before .before .before .before .before .before .before .before .before .before .before .before .args in
+    let b = v .inv .1 in
+    let g = row-walked (a .shaper) (a .node) (a .t3) _ _ _ b _ _ _ _ _ _ (v .inv .2) (t .loop-test .left) in
+    let q = c .before .before .before .before .before .loop2 in
+    row-done (a .shaper) (a .node) (a .t3) _ _ _ b _ _ _ _ _ g _ (c .before .before .before .before .before .before .before .before .before .before .before .before .before .before .before .before .given-up .ensures) _ (c .before .before .before .before .before .before .before .before .before .before .before .before .before .before .before .or-else .ensures) _ refl _ (rw (t .before .before .nobody .ensures) refl) _
+    (c .before .before .before .before .before .before .before .before .before .before .before .before .is-parent .ensures ∙ ap isParent (c .before .before .before .before .before .before .before .before .before .before .before .before .before .column-before .ensures)) _ (c .before .before .before .before .before .before .before .before .new .ensures) _ (c .before .before .before .before .before .before .before .need-link-line .ensures) _ (q .k)
+    (omega (arith, q .inv .upto, c .before .before .before .before .loop2-test .left)) (q .inv .stored) _ _ (c .before .before .before .before .before .before .before .before .before .before .before .before .before .before .before .before .before .before .before .before .before .before .before .before .is-head .ensures) (c .before .before .separator-line .ensures) _ (c .before .ended .ensures)
 
 pub next-row-shape-spec : {M : Type 1} → statement M
 next-row-shape-spec =
     tie.close
     (tie.spec
+    Inv-loop
+    μ-loop
+    Inv-loop2
+    μ-loop2
     are-too-many-requires
     refused-row-requires
     returns
-    place-node-requires
-    enum-known-found
+    live-count-requires
+    find-requires
+    find-column-requires
+    enum-known-column
     enum-told
     refused-row-requires-2
     returns-2
-    open-requires
-    walk-requires
+    mul-node-slot
+    array-copy-out-node-slot
+    is-head-requires
+    placeholder-requires
+    empty-requires
+    mul-slots
+    array-set-from-slots
+    empty-requires-2
+    mul-slots-2
+    array-set-from-slots-2
+    count-with-requires
+    nobody-requires
+    loop-holds
+    mul-entry
+    element-copy-out-entry
+    parent-column-requires
     refused-row-requires-3
     returns-3
-    settle-requires
-    slice-aggregate-new
+    mul-slot
+    array-copy-out-slot
+    entered-requires
+    mul-slots-3
+    array-set-from-slots-3
+    count-with-requires-2
+    drawn-by-requires
+    array-set-from-parents
+    is-anonymous-requires
+    add-i
+    loop-less
+    loop-again
+    given-up-requires
+    or-else-requires
+    mul-was
+    array-copy-out-was
+    column-before-requires
+    is-parent-requires
+    mul-own-slot
+    array-copy-out-own-slot
+    mul-other-slot
+    array-copy-out-other-slot
+    mul-slots-4
+    array-set-from-slots-4
+    mul-slots-5
+    array-set-from-slots-5
+    array-copy-out-drawn-in
+    array-set-from-parents-2
+    array-set-from-parents-3
     new-requires
-    cells-requires
-    separator-line-requires
     need-link-line-requires
-    accepted-row-requires
+    blank-requires
+    loop2-holds
+    mul-bare
+    array-copy-out-bare
+    column-before-requires-2
+    mul-settled
+    array-copy-out-settled
+    array-copy-out-parent
+    cell-requires
+    mul-cells
+    array-set-from-cells
+    add-k
+    loop2-less
+    loop2-again
+    separator-line-requires
+    ended-requires
     returns-4)
