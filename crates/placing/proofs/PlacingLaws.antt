@@ -312,15 +312,15 @@ module _ (bs : List Column) (c : ℕ) (es : List Entry) where
         }
 
 -- ---- the entries of an array
-module _ (n : ℕ) (l : List Entry₁) (i : ℕ) where
-  abbrev entriesIn : List Entry
-  entriesIn = map (λ (e : Entry₁). e .ancestor) (take n l)
+abbrev pub entriesIn : ℕ → List Entry₁ → List Entry
+entriesIn n l = map (λ (e : Entry₁). e .ancestor) (take n l)
 
-  pub given-next : (d : Entry₁) → i < n → i < length l → drop i entriesIn ≡ (getD l i d) .ancestor ∷ drop (suc i) entriesIn
+module _ (n : ℕ) (l : List Entry₁) (i : ℕ) where
+  pub given-next : (d : Entry₁) → i < n → i < length l → drop i (entriesIn n l) ≡ (getD l i d) .ancestor ∷ drop (suc i) (entriesIn n l)
   given-next d h k =
       let f : Entry₁ → Entry = λ (e : Entry₁). e .ancestor in
-      let w : i < length entriesIn = rw length-front (omega arith) in
-      drop-cons entriesIn i ((getD l i d) .ancestor) w ∙ rw (front-getD f n l i d ((getD l i d) .ancestor) h k)
+      let w : i < length (entriesIn n l) = rw length-front (omega arith) in
+      drop-cons (entriesIn n l) i ((getD l i d) .ancestor) w ∙ rw (front-getD f n l i d ((getD l i d) .ancestor) h k)
 
-  pub given-end : n ≤ i → drop i entriesIn ≡ []
-  given-end h = drop-of-length-le entriesIn {i = i} (rw length-front (omega arith))
+  pub given-end : n ≤ i → drop i (entriesIn n l) ≡ []
+  given-end h = drop-of-length-le (entriesIn n l) {i = i} (rw length-front (omega arith))

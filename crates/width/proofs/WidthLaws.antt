@@ -12,13 +12,13 @@ use borrow.Author.Tests.{eq-eqb, ne-eqb}
 use Rattle.column.specs.declared.Column.{Column}
 use Rattle.column.specs.declared.Column.the-variants.{Empty, Blocked}
 use Rattle.column.specs.declared.Found.the-variants.{At, Nothing}
+use Rattle.column.specs.declared.Slot.{Slot}
 use Rattle.column.specs.Columns.{columnLimit, isEmpty, find, live, emptySlot}
-use Rattle.column.specs.Codes.{columnIn, slotsIn}
 use Rattle.column.proofs.Front.{length-front, front-getD}
-use Rattle.column.proofs.Laws.{columnOf}
-use Rattle.column.proofs.CodeLaws.{length-slots, getD-column, length-live, code-at, code-below, code-past}
+use Rattle.column.proofs.Laws.{columnOf, live-at, live-below, live-past}
 use Rattle.render.specs.declared.render.Entries.{Entries}
-use Rattle.render.specs.Entries.{listed, tooMany}
+use Rattle.render.specs.Entries.{given, listed, tooMany}
+use Rattle.render.proofs.EntryLaws.{few-given}
 use Rattle.width.specs.declared.Room.{Room}
 use Rattle.width.specs.declared.NewNode.{NewNode}
 use Rattle.width.specs.declared.NewNode.the-variants.{Node, Absent}
@@ -26,8 +26,8 @@ use Rattle.shaper.specs.declared.Shaper.{Shaper}
 use Rattle.shaper.specs.Shaper.{viewOf}
 use Rattle.shaper.specs.NodeColumn.{dense}
 use Rattle.shaper.proofs.NodeLaws.{not-dense, is-dense}
-use Rattle.width.specs.Width.{count, apart, takeOne, forNode, width}
-use Rattle.width.specs.Promises.{unheld, Widths}
+use Rattle.width.specs.Width.{unheld, count, apart, takeOne, forNode, width}
+use Rattle.width.specs.Promises.{Widths}
 
 -- ---- a loop that counts: what is left to count from place i
 pub record Counting {A : Type 0} (t : A → Bool) (l : List A) (i n : ℕ) : Type 0 where
@@ -56,39 +56,38 @@ module _ {A : Type 0} (t : A → Bool) (l : List A) where
         omega (arith, g .left)
 
 -- the column at place i, and what is left behind it
-module _ (n : ℕ) (l : List ℕ) (i : ℕ) where
-  pub live-next : (c : Column) → i < n → i < length l → c ≡ columnIn (getD l i 0) → drop i (live n (slotsIn l)) ≡ c ∷ drop (suc i) (live n (slotsIn l))
-  live-next c h k e = drop-cons (live n (slotsIn l)) i Empty (code-below n l i h k) ∙ rw (code-at n l i h k, e)
+module _ (n : ℕ) (l : List Slot) (i : ℕ) where
+  pub live-next : i < n → i < length l → drop i (live n l) ≡ (getD l i emptySlot) .column ∷ drop (suc i) (live n l)
+  live-next h k = drop-cons (live n l) i Empty (live-below n l i h k) ∙ rw (live-at n l i h k)
 
-  pub live-end : min n (length l) ≤ i → drop i (live n (slotsIn l)) ≡ []
-  live-end h = drop-of-length-le (live n (slotsIn l)) {i = i} (code-past n l i h)
+  pub live-end : min n (length l) ≤ i → drop i (live n l) ≡ []
+  live-end h = drop-of-length-le (live n l) {i = i} (live-past n l i h)
 
 -- ---- the previous node's column is kept out
-module _ (n p : ℕ) (l : List ℕ) (r : Room) where
+module _ (n p : ℕ) (l : List Slot) (r : Room) where
   abbrev cs : List Column
-  cs = live n (slotsIn l)
+  cs = live n l
 
   module _ (out : min n (length l) ≤ p) where
     not-there : getD cs p Blocked ≡ Blocked
-    not-there = List·getD-eq-default cs Blocked {n = p} (code-past n l p out)
+    not-there = List·getD-eq-default cs Blocked {n = p} (live-past n l p out)
 
     pub apart-last : p ≡ min n (length l) → record { wide = r .wide + 1; free = r .free } ≡ apart (At p) cs r
     apart-last h =
-        let e : p ≡ length cs = h ∙ sym (length-live n l) in
+        let e : p ≡ length cs = h ∙ sym (length-front columnOf n l) in
         rw (not-there, eq-eqb p (length cs) e)
 
     pub apart-past : (p ≡ min n (length l) → ⊥) → r ≡ apart (At p) cs r
-    apart-past h = rw (not-there, ne-eqb p (length cs) (λ e. h (e ∙ length-live n l)))
+    apart-past h = rw (not-there, ne-eqb p (length cs) (λ e. h (e ∙ length-front columnOf n l)))
 
   module _ (h : p < n) (k : p < length l) where
-    there : (c : Column) → c ≡ columnIn (getD l p 0) → getD cs p Blocked ≡ c
-    there c e = front-getD columnOf n (slotsIn l) p emptySlot Blocked h (rw length-slots k) ∙ getD-column l p ∙ sym e
+    pub apart-empty : (f : ℕ) → isEmpty ((getD l p emptySlot) .column) ≡ true → f ≡ r .free - 1
+        → record { wide = r .wide; free = f } ≡ apart (At p) cs r
+    apart-empty f e q = rw (front-getD columnOf n l p emptySlot Blocked h k, e, q)
 
-    pub apart-empty : (f : ℕ) (c : Column) → c ≡ columnIn (getD l p 0) → isEmpty c ≡ true → f ≡ r .free - 1 → record { wide = r .wide; free = f } ≡ apart (At p) cs r
-    apart-empty f c z e q = rw (there c z, e, q)
-
-    pub apart-other : (c : Column) → c ≡ columnIn (getD l p 0) → isEmpty c ≡ false → r ≡ apart (At p) cs r
-    apart-other c z e = rw (there c z, e, ne-eqb p (length cs) (λ q. omega (arith, length-live n l)))
+    pub apart-other : isEmpty ((getD l p emptySlot) .column) ≡ false → r ≡ apart (At p) cs r
+    apart-other e =
+        rw (front-getD columnOf n l p emptySlot Blocked h k, e, ne-eqb p (length cs) (λ q. omega (arith, length-front columnOf n l)))
 
 -- ---- the node takes a column
 pub take-new : (r : Room) → r .free ≡ 0 → record { wide = r .wide + 1; free = 0 } ≡ takeOne r
@@ -130,16 +129,16 @@ module _ (s : Shaper) (n : NewNode) (r : Room) where
 
 -- ---- the width call
 module _ (s : Shaper) (n : NewNode) (es : Entries) where
-  pub width-refused : tooMany es ≡ true → Widths s n es (record { refusal = 3; width = 0 })
+  pub width-refused : tooMany (listed es) ≡ true → Widths s n es (record { refusal = 3; width = 0 })
   unfolding width
   width-refused h = record { reply = rw h }
 
-  pub width-done : tooMany es ≡ false → length (s .slots) ≡ columnLimit → (wide free : ℕ) (q : Room) (u b x : ℕ)
+  pub width-done : tooMany (listed es) ≡ false → length (s .slots) ≡ columnLimit → (wide free : ℕ) (q : Room) (u b x : ℕ)
       → wide ≡ min (s .count) columnLimit → free ≡ count isEmpty (live (s .count) (s .slots))
       → q ≡ forNode (viewOf s) n (record { wide = wide; free = free })
-      → u ≡ count (unheld (live (s .count) (s .slots))) (listed es) → b ≡ u - q .free → x ≡ b - 1
+      → u ≡ count (unheld (live (s .count) (s .slots))) (given es) → b ≡ u - q .free → x ≡ b - 1
       → Widths s n es (record { refusal = 0; width = q .wide + x })
   unfolding width
   width-done h long wide free q u b x w f r e g k =
       let o : length (live (s .count) (s .slots)) ≡ wide = rw (length-front columnOf (s .count) (s .slots), long) (sym w) in
-      record { reply = rw (h, o, ← f, ← r, ← e, ← g, ← k) }
+      record { reply = rw (h, o, ← f, ← r, few-given es h, ← e, ← g, ← k) }

@@ -41,6 +41,10 @@ abbrev pub forNode : View → NewNode → Room → Room
 forNode v Absent r = r
 forNode v (Node n) r = cond (isNothing (find n (v .columns))) (takeOne (cond (dense v) (apart (v .previous) (v .columns) r) r)) r
 
+-- whether no column holds an entry's id (`width_with_options`)
+abbrev pub unheld : List Column → Entry → Bool
+unheld cs e = isNothing (heldBy e cs)
+
 -- a refusal gives "width 0"
 abbrev pub widthAnswer : ℕ → ℕ → WidthAnswer
 widthAnswer zero w = record { refusal = 0; width = w }
@@ -50,4 +54,4 @@ widthAnswer (suc k) w = record { refusal = suc k; width = 0 }
 unfoldable pub width : View → NewNode → List Entry → WidthAnswer
 width v n es =
     let r : Room = forNode v n (record { wide = length (v .columns); free = count isEmpty (v .columns) }) in
-    widthAnswer (refusal ((3 when tooMany es) ∷ [])) (r .wide + (count (λ e. isNothing (heldBy e (v .columns))) es - r .free - 1))
+    widthAnswer (refusal ((3 when tooMany es) ∷ [])) (r .wide + (count (unheld (v .columns)) es - r .free - 1))

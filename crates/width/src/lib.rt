@@ -2,13 +2,13 @@
 ghost use mathlib.Core.Path.{_≡_};
 ghost use Prim.Native.Nat.{suc, _-_, _≤_};
 ghost use Rattle.column.specs.Columns.{columnLimit, isEmpty, live};
-ghost use Rattle.column.specs.Codes.{slotsIn};
-ghost use Rattle.render.specs.Entries.{entryLimit, listed};
+ghost use Rattle.render.specs.Entries.{entryLimit, given};
 ghost use Rattle.shaper.specs.Shaper.{viewOf};
-ghost use Rattle.width.specs.Width.{count as countOf, apart as apartOf, takeOne, forNode};
-ghost use Rattle.width.specs.Promises.{unheld, Widths};
+ghost use Rattle.width.specs.Width.{count as countOf, unheld, apart as apartOf, takeOne, forNode};
+ghost use Rattle.width.specs.Promises.{Widths};
 use column::COLUMN_LIMIT;
 use column::Found;
+use column::Slot;
 use placing::held_by;
 use render::Entries;
 use shaper::ACCEPTED;
@@ -41,14 +41,15 @@ fn saturating_sub(a: usize, b: usize) -> usize
 }
 
 // How many columns are Empty.
-fn empty_columns(codes: &[u64; COLUMN_LIMIT], count: usize) -> usize
-    ensures { λ r. ⌜ (r ≡ countOf isEmpty (live count (slotsIn (now (codes .entry))))) × (r ≤ columnLimit) ⌝ }
+fn empty_columns(slots: [Slot; COLUMN_LIMIT], count: usize) -> usize
+    ensures { λ r. ⌜ (r ≡ countOf isEmpty (live count slots)) × (r ≤ columnLimit) ⌝ }
 {
-    let n = column::live_words(codes, count);
+    let n = column::live_count(count);
     let mut empty: usize = 0;
     let mut i: usize = 0;
     while i < n {
-        let column = column::column_of(codes[i]);
+        let slot = slots[i];
+        let column = slot.column;
         if column.is_empty() {
             empty += 1;
         }
@@ -58,9 +59,9 @@ fn empty_columns(codes: &[u64; COLUMN_LIMIT], count: usize) -> usize
 }
 
 // How many entries have no column.
-fn unallocated_parents(codes: &[u64], count: usize, entries: Entries) -> usize
+fn unallocated_parents(slots: [Slot; COLUMN_LIMIT], count: usize, entries: Entries) -> usize
     requires { ⌜ entries .count ≤ entryLimit ⌝ }
-    ensures { λ r. ⌜ (r ≡ countOf (unheld (live count (slotsIn (now (codes .entry))))) (listed entries)) × (r ≤ entryLimit) ⌝ }
+    ensures { λ r. ⌜ (r ≡ countOf (unheld (live count slots)) (given entries)) × (r ≤ entryLimit) ⌝ }
 {
     let list = entries.list;
     let n = entries.count;
@@ -69,7 +70,7 @@ fn unallocated_parents(codes: &[u64], count: usize, entries: Entries) -> usize
     while i < n {
         let entry = list[i];
         let ancestor = entry.ancestor;
-        if let Found::Nothing = held_by(codes, count, ancestor) {
+        if let Found::Nothing = held_by(slots, count, ancestor) {
             unallocated += 1;
         }
         i += 1;
@@ -78,11 +79,11 @@ fn unallocated_parents(codes: &[u64], count: usize, entries: Entries) -> usize
 }
 
 // What is left where a node that no column holds is kept out of the previous node's column.
-fn apart(codes: &[u64], count: usize, previous: usize, room: Room) -> Room
+fn apart(slots: [Slot; COLUMN_LIMIT], count: usize, previous: usize, room: Room) -> Room
     requires { ⌜ room .wide ≤ columnLimit ⌝ }
-    ensures { λ r. ⌜ (r ≡ apartOf (Found.At previous) (live count (slotsIn (now (codes .entry)))) room) × (r .wide ≤ suc columnLimit) ⌝ }
+    ensures { λ r. ⌜ (r ≡ apartOf (Found.At previous) (live count slots) room) × (r .wide ≤ suc columnLimit) ⌝ }
 {
-    let n = column::live_words(codes, count);
+    let n = column::live_count(count);
     if n == previous {
         return Room {
             wide: room.wide + 1,
@@ -92,7 +93,8 @@ fn apart(codes: &[u64], count: usize, previous: usize, room: Room) -> Room
     if n < previous {
         return room;
     }
-    let column = column::column_of(codes[previous]);
+    let slot = slots[previous];
+    let column = slot.column;
     if column.is_empty() {
         return Room {
             wide: room.wide,
@@ -119,17 +121,18 @@ fn take_one(room: Room) -> Room
     }
 }
 
-// What is left of the columns, which the words are, where a node may be considered.
-fn room_for(shaper: Shaper, codes: &[u64], node: NewNode, room: Room) -> Room
-    requires { ⌜ (room .wide ≤ columnLimit) × (live (shaper .count) (slotsIn (now codes)) ≡ live (shaper .count) (shaper .slots)) ⌝ }
+// What is left of the columns where a node may be considered.
+fn room_for(shaper: Shaper, node: NewNode, room: Room) -> Room
+    requires { ⌜ room .wide ≤ columnLimit ⌝ }
     ensures { λ r. ⌜ (r ≡ forNode (viewOf shaper) node room) × (r .wide ≤ suc (suc columnLimit)) ⌝ }
 {
+    let slots = shaper.slots;
     let count = shaper.count;
     let options = shaper.options;
     let NewNode::Node(id) = node else {
         return room;
     };
-    let Found::Nothing = column::find(codes, count, id) else {
+    let Found::Nothing = column::find(slots, count, id) else {
         return room;
     };
     if !options.stagger_consecutive_disconnected_nodes | (1 < options.min_row_height) {
@@ -139,7 +142,7 @@ fn room_for(shaper: Shaper, codes: &[u64], node: NewNode, room: Room) -> Room
     let Found::At(previous) = previous_node_column else {
         return take_one(room);
     };
-    take_one(apart(codes, count, previous, room))
+    take_one(apart(slots, count, previous, room))
 }
 
 // The width call: the number of columns needed after optionally considering the next node and its entries.
@@ -155,12 +158,15 @@ pub fn width(shaper: Shaper, node: NewNode, entries: Entries) -> WidthAnswer
     }
     let slots = shaper.slots;
     let count = shaper.count;
-    let mut codes = [0u64; COLUMN_LIMIT];
-    column::write_codes(&mut codes, slots, count);
-    let free = empty_columns(&codes, count);
-    let wide = column::live_count(count);
-    let room = room_for(shaper, &codes, node, Room { wide, free });
-    let unallocated = unallocated_parents(&codes, count, entries);
+    let room = room_for(
+        shaper,
+        node,
+        Room {
+            wide: column::live_count(count),
+            free: empty_columns(slots, count),
+        },
+    );
+    let unallocated = unallocated_parents(slots, count, entries);
     let beyond = saturating_sub(unallocated, room.free);
     WidthAnswer {
         refusal: ACCEPTED,

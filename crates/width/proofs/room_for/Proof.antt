@@ -12,7 +12,8 @@ enum-told : tie.Need-enum-told
 enum-told c = search needs
 
 returns : tie.Need-returns
-returns c = search needs
+returns c = let a = c .before .before .before .before .args in
+    (room-absent (a .shaper) (a .node) (a .room) (c .enum-told .given .1), omega arith)
 
 find-requires : tie.Need-find-requires
 find-requires c κs = search needs
@@ -25,14 +26,14 @@ enum-told-3 c = search needs
 
 returns-2 : tie.Need-returns-2
 returns-2 c = let a = c .before .before .before .before .before .before .before .before .args in
-    (room-held (a .shaper) (a .node) (a .room) _ (c .before .before .before .before .node .given .1) _ (rw (c .before .before .before .before .before .before .before .before .pre .1) at (sym (c .before .before .find .ensures) ∙ c .enum-told3 .given .1)), omega arith)
+    (room-held (a .shaper) (a .node) (a .room) _ (c .before .before .before .before .node .given .1) _ (sym (c .before .before .find .ensures) ∙ c .enum-told3 .given .1), omega arith)
 
 take-one-requires : tie.Need-take-one-requires
 take-one-requires c κs = search needs
 
 returns-3 : tie.Need-returns-3
 returns-3 c = let a = c .before .before .before .before .before .before .before .before .before .before .before .before .args in
-    (room-loose (a .shaper) (a .node) (a .room) _ (c .before .before .before .before .before .before .before .before .node .given .1) (rw (c .before .before .before .before .before .before .before .before .before .before .before .before .pre .1) at (sym (c .before .before .before .before .before .before .find .ensures) ∙ c .before .before .before .before .enum-told2 .given .1)) (c .take-one .result) (c .before .if1 .taken) (c .take-one .ensures .0), c .take-one .ensures .1)
+    (room-loose (a .shaper) (a .node) (a .room) _ (c .before .before .before .before .before .before .before .before .node .given .1) (sym (c .before .before .before .before .before .before .find .ensures) ∙ c .before .before .before .before .enum-told2 .given .1) (c .take-one .result) (c .before .if1 .taken) (c .take-one .ensures .0), c .take-one .ensures .1)
 
 enum-known-previous-node-column : tie.Need-enum-known-previous-node-column
 enum-known-previous-node-column c = search needs
@@ -45,7 +46,7 @@ take-one-requires-2 c κs = search needs
 
 returns-4 : tie.Need-returns-4
 returns-4 c = let a = c .before .before .before .before .before .before .before .before .before .before .before .before .before .before .args in
-    (room-first (a .shaper) (a .node) (a .room) _ (c .before .before .before .before .before .before .before .before .before .before .node .given .1) (rw (c .before .before .before .before .before .before .before .before .before .before .before .before .before .before .pre .1) at (sym (c .before .before .before .before .before .before .before .before .find .ensures) ∙ c .before .before .before .before .before .before .enum-told2 .given .1)) (c .take-one2 .result) (c .before .before .before .if1 .left) (c .before .enum-told4 .given .1) (c .take-one2 .ensures .0), c .take-one2 .ensures .1)
+    (room-first (a .shaper) (a .node) (a .room) _ (c .before .before .before .before .before .before .before .before .before .before .node .given .1) (sym (c .before .before .before .before .before .before .before .before .find .ensures) ∙ c .before .before .before .before .before .before .enum-told2 .given .1) (c .take-one2 .result) (c .before .before .before .if1 .left) (c .before .enum-told4 .given .1) (c .take-one2 .ensures .0), c .take-one2 .ensures .1)
 
 apart-requires : tie.Need-apart-requires
 apart-requires c κs = search needs
@@ -55,7 +56,7 @@ take-one-requires-3 c κs = search needs
 
 returns-5 : tie.Need-returns-5
 returns-5 c = let a = c .before .before .before .before .before .before .before .before .before .before .before .before .before .before .before .before .args in
-    (room-apart (a .shaper) (a .node) (a .room) _ (c .before .before .before .before .before .before .before .before .before .before .before .before .node .given .1) (rw (c .before .before .before .before .before .before .before .before .before .before .before .before .before .before .before .before .pre .1) at (sym (c .before .before .before .before .before .before .before .before .before .before .find .ensures) ∙ c .before .before .before .before .before .before .before .before .enum-told2 .given .1)) (c .take-one3 .result) (c .before .before .before .before .before .if1 .left) _ (c .before .apart .result) (c .before .before .before .previous-node-column .given .1) (rw (c .before .before .before .before .before .before .before .before .before .before .before .before .before .before .before .before .pre .1) at (c .before .apart .ensures .0)) (c .take-one3 .ensures .0), c .take-one3 .ensures .1)
+    (room-apart (a .shaper) (a .node) (a .room) _ (c .before .before .before .before .before .before .before .before .before .before .before .before .node .given .1) (sym (c .before .before .before .before .before .before .before .before .before .before .find .ensures) ∙ c .before .before .before .before .before .before .before .before .enum-told2 .given .1) (c .take-one3 .result) (c .before .before .before .before .before .if1 .left) _ (c .before .apart .result) (c .before .before .before .previous-node-column .given .1) (c .before .apart .ensures .0) (c .take-one3 .ensures .0), c .take-one3 .ensures .1)
 
 pub room-for-spec : {M : Type 1} → statement M
 room-for-spec =
