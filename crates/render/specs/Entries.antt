@@ -53,6 +53,10 @@ overlong = replicate (suc entryLimit) Anonymous
 abbrev pub listed : Entries → List Ancestor
 listed es = cond (es .«too_many» || ltb entryLimit (es .count)) overlong (given es)
 
+-- a list as entries by value hold it: itself, or one longer than the limit where it is too long
+abbrev pub capped : List Ancestor → List Ancestor
+capped es = cond (tooMany es) overlong es
+
 -- the array without entries
 abbrev pub noEntries : Entries
 noEntries = record { list = replicate entryLimit (record { ancestor = Anonymous }); count = 0; «too_many» = false }

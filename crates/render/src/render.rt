@@ -1,7 +1,7 @@
 // Parent entries, the cells of node and pad lines, and the marks of link lines, after render.rs.
 ghost use mathlib.Core.Path.{_≡_};
 ghost use Prim.Native.Nat.{_≤_};
-ghost use Rattle.render.specs.Entries.{pushed, noEntries, tooMany, isDirect, isAnonymous};
+ghost use Rattle.render.specs.Entries.{pushed, noEntries, listed, tooMany, isDirect, isAnonymous};
 ghost use Rattle.render.specs.Link.{meets, joined, only, unmarked, linkOf};
 
 // The most entries of a row.
@@ -70,7 +70,7 @@ impl Entries {
 
     // Whether there are more than the limit.
     pub fn are_too_many(self) -> bool
-        ensures { λ r. ⌜ r ≡ tooMany self ⌝ }
+        ensures { λ r. ⌜ r ≡ tooMany (listed self) ⌝ }
     {
         self.too_many | (ENTRY_LIMIT < self.count)
     }

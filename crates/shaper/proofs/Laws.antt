@@ -1,28 +1,28 @@
 -- Laws of the definitions in specs/Shaper.antt, one for each return of the calls.
 use Prim.Native.Nat.{ℕ, _+_, _≤_, _<_, min, max}
 use mathlib.Core.Path.{_≡_, refl, _∙_, sym}
-use mathlib.Core.Bool.{Bool, true, false, _||_}
+use mathlib.Core.Bool.{false}
 use mathlib.Core.List.{List, map}
 use native.Mathlib.Omega.{arith}
-use lib.Dec.{ltb}
 use lib.ListN.{length, set, length-map}
-use borrow.Author.Tests.{ltb-false, le-leb, lt-leb, lt-ltb, le-ltb}
+use borrow.Author.Tests.{le-leb, lt-leb, lt-ltb, le-ltb}
 use Rattle.column.specs.declared.Column.{Column}
 use Rattle.column.specs.declared.Column.the-variants.{Reserved}
 use Rattle.column.specs.declared.Found.the-variants.{At, Nothing}
 use Rattle.column.specs.declared.Slot.{Slot}
 use Rattle.column.specs.Columns.{columnLimit, isEmpty, find, live, first, orElse, vacant, put}
 use Rattle.column.proofs.Front.{length-front}
-use Rattle.column.proofs.Laws.{first-below, live-put, spare-put}
+use Rattle.column.proofs.Laws.{first-below, live-put}
 use Rattle.render.specs.declared.render.Entries.{Entries}
-use Rattle.render.specs.Entries.{entryLimit, tooMany}
+use Rattle.render.specs.Entries.{entryLimit, listed, tooMany}
 use Rattle.shaper.specs.declared.Shaper.{Shaper}
-use Rattle.shaper.specs.Shaper.{heightLimit, viewOf, View, fresh, refusedOptions, Fresh, withColumns, reserve, Reserves}
+use Rattle.shaper.specs.Shaper.{heightLimit, viewOf, View, fresh, refusedOptions, Fresh, withColumns, reserve, reservedSlot, Reserves}
 use Rattle.column.specs.declared.Found.{Found}
 use Rattle.column.proofs.Slot.{the-type}
 use Rattle.render.specs.declared.render.Entry.{Entry}
 use Rattle.render.specs.declared.types.Options.{Options}
 use Rattle.render.proofs.render.Entry as Entry′
+use Rattle.render.proofs.EntryLaws.{few-count}
 
 -- an array of slots has 64, by what the prover knows of an array that is a struct's field
 pub slots-long : (l : List Slot) → length (map (the-type .to) l) ≡ columnLimit → length l ≡ columnLimit
@@ -33,12 +33,8 @@ pub entries-long : (l : List Entry) → length (map (Entry′.the-type .to) l) �
 entries-long l e = sym (length-map l (Entry′.the-type .to)) ∙ e
 
 -- entries that are not too many are at most 32
-few-listed : (b : Bool) (n : ℕ) → (b || ltb entryLimit n) ≡ false → n ≤ entryLimit
-few-listed false n e = ltb-false entryLimit n e
-few-listed true n e = let z : _≡_ {A = ℕ} 0 1 = cc in absurd (omega arith)
-
-pub few : (es : Entries) → tooMany es ≡ false → es .count ≤ entryLimit
-few es = few-listed (es .«too_many») (es .count)
+pub few : (es : Entries) → tooMany (listed es) ≡ false → es .count ≤ entryLimit
+few = few-count
 
 -- ---- the new shaper call
 module _ (o : Options) where
@@ -98,8 +94,8 @@ module _ (s : Shaper) (n : ℕ) where
         refused = λ h. refl;
         held = λ j q. refl;
         fits = λ q z. let y : _≡_ {A = ℕ} 0 1 = cc in absurd (omega arith);
+        taken = λ q z. let y : _≡_ {A = ℕ} 0 1 = cc in absurd (omega arith);
         options = refl;
-        rest = λ g. g;
       }
 
   module _ (e : find n live-columns ≡ Nothing) (long : length (s .slots) ≡ columnLimit) where
@@ -110,16 +106,13 @@ module _ (s : Shaper) (n : ℕ) where
           refused = λ k. refl;
           held = λ j q. refl;
           fits = λ q z. absurd (omega arith);
+          taken = λ q z. absurd (omega arith);
           options = refl;
-          rest = λ g. g;
         }
 
     module _ (i m : ℕ) (a : i ≡ vacant live-columns) (h : i < columnLimit) (k : m ≡ min (max (s .count) (i + 1)) columnLimit) where
-      abbrev slot : Slot
-      slot = record { column = Reserved n }
-
       abbrev stored : Shaper
-      stored = record { slots = set (s .slots) i slot; count = m; «previous_node_column» = s .«previous_node_column»; options = s .options }
+      stored = record { slots = set (s .slots) i (reservedSlot n); count = m; «previous_node_column» = s .«previous_node_column»; options = s .options }
 
       p : i < length (s .slots)
       p = omega arith
@@ -134,11 +127,11 @@ module _ (s : Shaper) (n : ℕ) where
       room-done =
           record {
             reply =
-                rw (live-put (s .count) i m (s .slots) slot p q r, a)
+                rw (live-put (s .count) i m (s .slots) (reservedSlot n) p q r, a)
                 (sym (reserve-room (viewOf s) n e (omega arith)));
             refused = λ z. absurd (z refl);
             held = λ j x. let y : _≡_ {A = ℕ} 0 1 = cc in absurd (omega arith);
             fits = λ x z. omega arith;
+            taken = λ x z. rw a;
             options = refl;
-            rest = λ g. spare-put (s .count) i m (s .slots) slot p q r g;
           }
