@@ -21,7 +21,7 @@ use Rattle.column.proofs.Positions.{length-put, put-skip, at-live}
 use Rattle.render.specs.declared.render.Ancestor.{Ancestor as Entry}
 use Rattle.render.specs.declared.render.Entry.{Entry as Entry₁}
 use Rattle.render.specs.declared.render.Entries.{Entries}
-use Rattle.render.specs.Entries.{entryLimit, isAnonymous, anyOf, listed}
+use Rattle.render.specs.Entries.{entryLimit, isAnonymous, anyOf, given as entriesGiven}
 use Rattle.render.specs.declared.render.Ancestor.the-variants.{Ancestor as Indirect, Parent as Direct, Anonymous}
 use Rattle.links.specs.declared.Met.the-variants.{Nobody, By}
 use Rattle.links.specs.Inner.{ParentColumn, drawnBy, parentIn, parentsIn}
@@ -316,10 +316,10 @@ columns-read n count l long e = front-clamp slotColumn n count l (rw long e)
 
 pub walks-read : (bare : Columns) (c : ℕ) (es : Entries) (count n : ℕ) (r : Went) → length (bare .slots) ≡ columnLimit → length (es .list) ≡ entryLimit
     → count ≡ min (bare .count) columnLimit → n ≡ min (es .count) entryLimit → Walks (record { slots = bare .slots; count = count }) c (given n (es .list)) r
-    → Walks bare c (listed es) r
+    → Walks bare c (entriesGiven es) r
 walks-read bare c es count n r long wide e f p =
     let b : live count (bare .slots) ≡ columnsOf bare = columns-read count (bare .count) (bare .slots) long e in
-    let l : given n (es .list) ≡ listed es = entries-read n (es .count) (es .list) wide f in
+    let l : given n (es .list) ≡ entriesGiven es = entries-read n (es .count) (es .list) wide f in
     record {
       over = λ z. rw (b, l) at (p .over z);
       columns = λ z. rw (b, l) at (p .columns z);

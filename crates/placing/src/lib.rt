@@ -7,7 +7,7 @@ ghost use Rattle.column.specs.Columns.{columnLimit, isParent, live};
 ghost use Rattle.column.specs.Codes.{slotIn, slotsIn};
 ghost use Rattle.links.specs.Inner.{parentIn, parentsIn};
 ghost use Rattle.links.specs.declared.Met.the-variants.{By};
-ghost use Rattle.render.specs.Entries.{entryLimit, listed};
+ghost use Rattle.render.specs.Entries.{entryLimit, given};
 ghost use Rattle.placing.specs.Placing.{columnOf, heldBy, spot as spotOf};
 ghost use Rattle.placing.specs.Inner.{Opens, entered as enteredOf, wentOf, Walks, settled as settledOf};
 use column::COLUMN_LIMIT;
@@ -130,7 +130,7 @@ pub fn walk(
     column: usize,
     entries: Entries,
 ) -> Walked
-    ensures { λ r. ⌜ Walks (record { slots = slotsIn (now (codes .entry)); count = live }) column (listed entries) (wentOf r (now (codes .exit)) (now (parents .exit))) ⌝ }
+    ensures { λ r. ⌜ Walks (record { slots = slotsIn (now (codes .entry)); count = live }) column (given entries) (wentOf r (now (codes .exit)) (now (parents .exit))) ⌝ }
 {
     let n = entry_count(entries.count);
     let mut count = column::live_words(codes, live);

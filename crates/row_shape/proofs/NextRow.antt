@@ -22,7 +22,8 @@ use Rattle.render.specs.declared.render.Entry.{Entry as Entry₁}
 use Rattle.render.specs.declared.render.Entries.{Entries}
 use Rattle.render.specs.declared.types.Cell.{Cell}
 use Rattle.render.specs.declared.types.RowShape.{RowShape}
-use Rattle.render.specs.Entries.{entryLimit, isAnonymous, anyOf, listed, tooMany}
+use Rattle.render.specs.Entries.{entryLimit, isAnonymous, anyOf, given, listed, tooMany}
+use Rattle.render.proofs.EntryLaws.{few-given}
 use Rattle.render.specs.Lines.{blankCell}
 use Rattle.shaper.specs.declared.Shaper.{Shaper}
 use Rattle.row_shape.specs.declared.RowAnswer.{RowAnswer}
@@ -48,19 +49,19 @@ use Rattle.placing.proofs.SwapLaws.{Settles, settles, settles-kept}
 use Rattle.cells.proofs.CellLaws.{cells-same}
 
 -- ---- the row call from the node's column on
-abbrev rowFrom : View → ℕ → Bool → List Entry → ℕ → RowReply
-rowFrom v n many es c =
-    let p : Placed = placeAt c es (put (v .columns) c Empty) in rowAnswer (refusal (rowChecks many p)) v n es p
+abbrev rowFrom : View → ℕ → List Entry → ℕ → RowReply
+rowFrom v n es c =
+    let p : Placed = placeAt c es (put (v .columns) c Empty) in rowAnswer (refusal (rowChecks es p)) v n es p
 
-row-from : (v : View) (n : ℕ) (many : Bool) (es : List Entry) (c : ℕ) → c ≡ nodeColumn v n → row v n many es ≡ rowFrom v n many es c
+row-from : (v : View) (n : ℕ) (es : List Entry) (c : ℕ) → c ≡ nodeColumn v n → row v n es ≡ rowFrom v n es c
 unfolding row place
-row-from v n many es c e = sym (ap (rowFrom v n many es) e)
+row-from v n es c e = sym (ap (rowFrom v n es) e)
 
 module _ (s : Shaper) (n : ℕ) (es : Entries) where
   abbrev v : View
   v = viewOf s
 
-  refused-row : (k : ℕ) → row v n (tooMany es) (listed es) ≡ record { refusal = suc k; shape = noShape; view = v }
+  refused-row : (k : ℕ) → row v n (listed es) ≡ record { refusal = suc k; shape = noShape; view = v }
       → Rows s n es (record { refusal = suc k; shape = noShape; shaper = s })
   refused-row k e =
       record {
@@ -68,17 +69,17 @@ module _ (s : Shaper) (n : ℕ) (es : Entries) where
         refused = λ h. refl;
         fits = λ z. absurd (omega arith);
         options = refl;
-        rest = λ g. g;
+        rest = λ z. absurd (omega arith);
       }
 
   -- more than 32 entries
-  pub row-too-many : (r : RowAnswer) → tooMany es ≡ true → r ≡ record { refusal = 3; shape = noShape; shaper = s } → Rows s n es r
+  pub row-too-many : (r : RowAnswer) → tooMany (listed es) ≡ true → r ≡ record { refusal = 3; shape = noShape; shaper = s } → Rows s n es r
   unfolding row place
   row-too-many r h e = rw e (refused-row 2 (rw h))
 
-  module _ (few : tooMany es ≡ false) where
+  module _ (few : tooMany (listed es) ≡ false) where
     wide : columnLimit < length (walk (nodeColumn v n) (listed es) (put (v .columns) (nodeColumn v n) Empty))
-        → row v n (tooMany es) (listed es) ≡ record { refusal = 4; shape = noShape; view = v }
+        → row v n (listed es) ≡ record { refusal = 4; shape = noShape; view = v }
     unfolding row place
     wide h = rw (few, lt-ltb columnLimit (length (walk (nodeColumn v n) (listed es) (put (v .columns) (nodeColumn v n) Empty))) h)
 
@@ -104,10 +105,10 @@ module _ (s : Shaper) (n : ℕ) (es : Entries) where
       bare-is = rw same at (o .columns within (rw (same, placed .0) (node-in v n)))
 
       -- no room for the entries
-      pub row-no-room : (r : RowAnswer) (w : Went) → Walks bare c (listed es) w → w .fits ≡ false
+      pub row-no-room : (r : RowAnswer) (w : Went) → Walks bare c (given es) w → w .fits ≡ false
           → r ≡ record { refusal = 4; shape = noShape; shaper = s } → Rows s n es r
       row-no-room r w p z a =
-          let h : columnLimit < length (walk c (listed es) (put (v .columns) c Empty)) = rw bare-is at (p .over z) in
+          let h : columnLimit < length (walk c (listed es) (put (v .columns) c Empty)) = rw (bare-is, ← few-given es few) at (p .over z) in
           rw a (refused-row 3 (wide (rw (placed .0) at h)))
 
 -- ---- the shape
@@ -170,27 +171,30 @@ shape-done v n es p merges sep hd root term width l e1 e2 e3 e4 e5 e6 e7 = rw (e
 -- ---- an accepted row
 
 -- the list of entries is as long as the count says
-module _ (es : Entries) (long : length (es .list) ≡ entryLimit) (few : es .count ≤ entryLimit) where
+module _ (es : Entries) (few : tooMany (listed es) ≡ false) (long : length (es .list) ≡ entryLimit) (fewer : es .count ≤ entryLimit) where
   length-listed : length (listed es) ≡ es .count
   length-listed =
-      let z : length (listed es) ≡ min (es .count) (length (es .list)) = length-front (λ (e : Entry₁). e .ancestor) (es .count) (es .list) in
-      omega arith
+      let z : length (given es) ≡ min (es .count) (length (es .list)) = length-front (λ (e : Entry₁). e .ancestor) (es .count) (es .list) in
+      rw (few-given es few) (omega arith)
 
   pub root-is : eqb (es .count) 0 ≡ eqb (length (listed es)) 0
   root-is = ap (λ (k : ℕ). eqb k 0) (sym length-listed)
 
-accept : (v : View) (n : ℕ) (es : List Entry) (c : ℕ) → c ≡ nodeColumn v n → length (walk c es (put (v .columns) c Empty)) ≤ columnLimit
-    → row v n false es
+accept : (v : View) (n : ℕ) (es : List Entry) (c : ℕ) → tooMany es ≡ false → c ≡ nodeColumn v n → length (walk c es (put (v .columns) c Empty)) ≤ columnLimit
+    → row v n es
     ≡ record { refusal = 0; shape = shapeAt v n es (placeAt c es (put (v .columns) c Empty)); view = rowAfter v (placeAt c es (put (v .columns) c Empty)) }
-accept v n es c e h = row-from v n false es c e ∙ rw (le-ltb columnLimit (length (walk c es (put (v .columns) c Empty))) h)
+accept v n es c m e h = row-from v n es c e ∙ rw (m, le-ltb columnLimit (length (walk c es (put (v .columns) c Empty))) h)
 
 reply-same : (r : ℕ) (a b : RowShape) (x y : View) → a ≡ b → x ≡ y → _≡_ {A = RowReply} (record { refusal = r; shape = a; view = x }) (record { refusal = r; shape = b; view = y })
 reply-same r a b x y e f = ap₂ (λ (g : RowShape) (u : View). record { refusal = r; shape = g; view = u }) e f
 
-module _ (s : Shaper) (n : ℕ) (es : Entries) (few : tooMany es ≡ false) (fewer : es .count ≤ entryLimit) (entries : length (es .list) ≡ entryLimit) (existing f : Found)
+module _ (s : Shaper) (n : ℕ) (es : Entries) (few : tooMany (listed es) ≡ false) (fewer : es .count ≤ entryLimit) (entries : length (es .list) ≡ entryLimit) (existing f : Found)
     (c : ℕ) (e : existing ≡ find n (live (s .count) (s .slots))) (g : f ≡ fitting (orElse existing (unallocated (viewOf s)))) (q : f ≡ At c) (l₀ : List Slot) (same : live (s .count) l₀ ≡ live (s .count) (s .slots)) (bare : Columns)
-    (o : Opens l₀ (s .count) c bare) (w : Went) (p : Walks bare c (listed es) w) (fit : w .fits ≡ true) (r : Settled)
+    (o : Opens l₀ (s .count) c bare) (w : Went) (p₀ : Walks bare c (given es) w) (fit : w .fits ≡ true) (r : Settled)
     (a : r ≡ settled (w .slots) (w .parents) (w .spot) bare c (eqb (es .count) 1)) where
+  p : Walks bare c (listed es) w
+  p = rw (few-given es few) p₀
+
   abbrev u : View
   u = viewOf s
 
@@ -207,7 +211,7 @@ module _ (s : Shaper) (n : ℕ) (es : Entries) (few : tooMany es ≡ false) (few
   b-is = bare-is s n es few existing f c e g q l₀ same bare o
 
   one : eqb (es .count) 1 ≡ eqb (length (listed es)) 1
-  one = rw (length-listed es entries fewer)
+  one = rw (length-listed es few entries fewer)
 
   st : Settles (listed es) c bs (w .count) r
   st = rw a (settles c bs bare b-is (at-put-same (u .columns) c Empty) (o .long) w fit (listed es) p (eqb (es .count) 1) one)
@@ -237,7 +241,7 @@ module _ (s : Shaper) (n : ℕ) (es : Entries) (few : tooMany es ≡ false) (few
       let h : b .target ≡ c = ap (λ (x : AncestorColumnBounds). x .target) be in
       rw (ce (be ∙ ap (λ (k : ℕ). boundsOf (mets (w .count) (r .parents)) k) (sym h)) (keeps b h), ne, be)
 
-  pub row-done : (b : AncestorColumnBounds) (term sep hd need : Bool) (cells : List Cell) (x : RowAnswer) → term ≡ anyOf isAnonymous (listed es) → sep ≡ separator u existing c term → hd ≡ head existing (u .columns)
+  pub row-done : (b : AncestorColumnBounds) (term sep hd need : Bool) (cells : List Cell) (x : RowAnswer) → term ≡ anyOf isAnonymous (given es) → sep ≡ separator u existing c term → hd ≡ head existing (u .columns)
       → b ≡ boundsOf (mets (w .count) (r .parents)) c → need ≡ linked b (r .swap)
       → Draws b (r .swap) (r .parents) bare (r .slots) (w .count) cells
       → Accepts (s .options)
@@ -256,17 +260,18 @@ module _ (s : Shaper) (n : ℕ) (es : Entries) (few : tooMany es ≡ false) (few
       })
       (live (w .count) (r .slots)) x
       → Rows s n es x
-  row-done b term sep hd need cells x te se he be ne ce g =
+  row-done b term sep hd need cells x tg se he be ne ce g =
+      let te : term ≡ anyOf isAnonymous (listed es) = rw (few-given es few) tg in
       record {
         reply =
             rw (g .number, g .shape, g .columns, g .previous, g .same)
             (reply-same 0 _ (shapeAt u n (listed es) pl) _ (rowAfter u pl)
             (shape-done u n (listed es) pl (ltb 1 (es .count)) sep hd (eqb (es .count) 0) term (w .count) (record { «link_line» = need; cells = cells })
-            (rw (length-listed es entries fewer)) (se ∙ rw (e, te)) (he ∙ rw e) (root-is es entries fewer) width-is te (lines-are _ (lines-drawn b need cells be ne ce)))
+            (rw (length-listed es few entries fewer)) (se ∙ rw (e, te)) (he ∙ rw e) (root-is es few entries fewer) width-is te (lines-are _ (lines-drawn b need cells be ne ce)))
             (rw (st .columns))
-            ∙ sym (rw few (accept u n (listed es) c c-is (rw (← width-is) (p .fitting)))));
+            ∙ sym (accept u n (listed es) c few c-is (rw (← width-is) (p .fitting))));
         refused = λ z. absurd (z (g .number));
         fits = λ z. g .fits;
         options = g .same;
-        rest = λ y. g .spare;
+        rest = λ z. g .spare;
       }

@@ -18,7 +18,8 @@ use Rattle.column.proofs.Front.{length-front, front-getD}
 use Rattle.column.proofs.Laws.{columnOf}
 use Rattle.column.proofs.CodeLaws.{length-slots, getD-column, length-live, code-at, code-below, code-past}
 use Rattle.render.specs.declared.render.Entries.{Entries}
-use Rattle.render.specs.Entries.{listed, tooMany}
+use Rattle.render.specs.Entries.{given, listed, tooMany}
+use Rattle.render.proofs.EntryLaws.{few-given}
 use Rattle.width.specs.declared.Room.{Room}
 use Rattle.width.specs.declared.NewNode.{NewNode}
 use Rattle.width.specs.declared.NewNode.the-variants.{Node, Absent}
@@ -130,16 +131,16 @@ module _ (s : Shaper) (n : NewNode) (r : Room) where
 
 -- ---- the width call
 module _ (s : Shaper) (n : NewNode) (es : Entries) where
-  pub width-refused : tooMany es ≡ true → Widths s n es (record { refusal = 3; width = 0 })
+  pub width-refused : tooMany (listed es) ≡ true → Widths s n es (record { refusal = 3; width = 0 })
   unfolding width
   width-refused h = record { reply = rw h }
 
-  pub width-done : tooMany es ≡ false → length (s .slots) ≡ columnLimit → (wide free : ℕ) (q : Room) (u b x : ℕ)
+  pub width-done : tooMany (listed es) ≡ false → length (s .slots) ≡ columnLimit → (wide free : ℕ) (q : Room) (u b x : ℕ)
       → wide ≡ min (s .count) columnLimit → free ≡ count isEmpty (live (s .count) (s .slots))
       → q ≡ forNode (viewOf s) n (record { wide = wide; free = free })
-      → u ≡ count (unheld (live (s .count) (s .slots))) (listed es) → b ≡ u - q .free → x ≡ b - 1
+      → u ≡ count (unheld (live (s .count) (s .slots))) (given es) → b ≡ u - q .free → x ≡ b - 1
       → Widths s n es (record { refusal = 0; width = q .wide + x })
   unfolding width
   width-done h long wide free q u b x w f r e g k =
       let o : length (live (s .count) (s .slots)) ≡ wide = rw (length-front columnOf (s .count) (s .slots), long) (sym w) in
-      record { reply = rw (h, o, ← f, ← r, ← e, ← g, ← k) }
+      record { reply = rw (h, o, few-given es h, ← f, ← r, ← e, ← g, ← k) }

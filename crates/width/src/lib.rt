@@ -3,7 +3,7 @@ ghost use mathlib.Core.Path.{_≡_};
 ghost use Prim.Native.Nat.{suc, _-_, _≤_};
 ghost use Rattle.column.specs.Columns.{columnLimit, isEmpty, live};
 ghost use Rattle.column.specs.Codes.{slotsIn};
-ghost use Rattle.render.specs.Entries.{entryLimit, listed};
+ghost use Rattle.render.specs.Entries.{entryLimit, given};
 ghost use Rattle.shaper.specs.Shaper.{viewOf};
 ghost use Rattle.width.specs.Width.{count as countOf, apart as apartOf, takeOne, forNode};
 ghost use Rattle.width.specs.Promises.{unheld, Widths};
@@ -60,7 +60,7 @@ fn empty_columns(codes: &[u64; COLUMN_LIMIT], count: usize) -> usize
 // How many entries have no column.
 fn unallocated_parents(codes: &[u64], count: usize, entries: Entries) -> usize
     requires { ⌜ entries .count ≤ entryLimit ⌝ }
-    ensures { λ r. ⌜ (r ≡ countOf (unheld (live count (slotsIn (now (codes .entry))))) (listed entries)) × (r ≤ entryLimit) ⌝ }
+    ensures { λ r. ⌜ (r ≡ countOf (unheld (live count (slotsIn (now (codes .entry))))) (given entries)) × (r ≤ entryLimit) ⌝ }
 {
     let list = entries.list;
     let n = entries.count;
