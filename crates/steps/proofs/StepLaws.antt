@@ -12,7 +12,7 @@ use lib.Dec.{ltb}
 use lib.ListN.{length, take, drop, length-append, length-map}
 use lib.Seq.{take-append-seam}
 use Rattle.render.specs.declared.render.Ancestor.{Ancestor as Entry}
-use Rattle.render.specs.Entries.{listed, tooMany}
+use Rattle.render.specs.Entries.{listed}
 use Rattle.render.specs.Refusals.{refusal}
 use Rattle.shaper.specs.Shaper.{View, viewOf}
 use Rattle.row_shape.specs.declared.RowAnswer.{RowAnswer}
@@ -44,12 +44,12 @@ use Rattle.steps.specs.Steps.{refusedIn, ProgressView, StepReply, stoppe
 use Rattle.steps.specs.Promises.{progressViewOf, undrawn, Steps}
 
 -- ---- what a text call's definition says of a refusal and of what was written
-module _ (v : View) (t : TextView) (q : Renderer) (n : ℕ) (many : Bool) (es : List Entry) (mark : ℕ) (message out : List ℕ) where
+module _ (v : View) (t : TextView) (q : Renderer) (n : ℕ) (es : List Entry) (mark : ℕ) (message out : List ℕ) where
   abbrev called : TextReply
-  called = text v t q n many es mark message out
+  called = text v t q n es mark message out
 
   abbrev rowed : RowReply
-  rowed = row v n many es
+  rowed = row v n es
 
   abbrev lines : List (List ℕ)
   lines = textLines t q (rowed .shape) mark (linesOf message) (v .height)
@@ -83,13 +83,13 @@ module _ (v : View) (t : TextView) (q : Renderer) (n : ℕ) (many : Bool) (es : 
   accepted-output z = answer-written number lines (rowed .view) end z
 
 -- ---- the page's row
-module _ (p : Progress) (d : Record) (out : List ℕ) (few : tooMany (d .entries) ≡ false) (m : List ℕ) (same : m ≡ take (d .«message_length») (d .message))
+module _ (p : Progress) (d : Record) (out : List ℕ) (m : List ℕ) (same : m ≡ take (d .«message_length») (d .message))
     (g : TextAnswer) (after : List ℕ) (u : Texts (p .shaper) (p .state) Curved (d .id) (d .entries) (d .mark) m out after g) where
   abbrev page : TextReply
-  page = text (viewOf (p .shaper)) (textViewOf (p .state)) Curved (d .id) false (listed (d .entries)) (d .mark) (take (d .«message_length») (d .message)) out
+  page = text (viewOf (p .shaper)) (textViewOf (p .state)) Curved (d .id) (listed (d .entries)) (d .mark) (take (d .«message_length») (d .message)) out
 
   replied : textReplyOf g after ≡ page
-  replied = u .reply ∙ rw (few, same) refl
+  replied = u .reply ∙ rw same refl
 
   refusal-is : page .refusal ≡ g .refusal
   refusal-is = sym (ap (λ (r : TextReply). r .refusal) replied)
@@ -97,7 +97,7 @@ module _ (p : Progress) (d : Record) (out : List ℕ) (few : tooMany (d .entries
   pub page-out : (g .refusal ≡ 0 → ⊥) → after ≡ out
   page-out z =
       ap (λ (r : TextReply). r .output) replied
-      ∙ refused-output (viewOf (p .shaper)) (textViewOf (p .state)) Curved (d .id) false (listed (d .entries)) (d .mark) (take (d .«message_length») (d .message)) out (λ e. z (sym refusal-is ∙ e))
+      ∙ refused-output (viewOf (p .shaper)) (textViewOf (p .state)) Curved (d .id) (listed (d .entries)) (d .mark) (take (d .«message_length») (d .message)) out (λ e. z (sym refusal-is ∙ e))
 
   stops : (k : ℕ) → g .refusal ≡ k → (k ≡ 0 → ⊥) → pageRow (progressViewOf p) (recordViewOf d) out ≡ stopped (progressViewOf p) (refusedIn out k (p .number))
   stops zero e z = absurd (z refl)
@@ -112,7 +112,7 @@ module _ (p : Progress) (d : Record) (out : List ℕ) (few : tooMany (d .entries
       → Steps (pageRow (progressViewOf p) (recordViewOf d) out) p out after
       (record { length = g .length; «goes_on» = true; progress = record { shaper = g .shaper; state = g .state; number = k } })
   page-goes k e z =
-      let w = accepted-output (viewOf (p .shaper)) (textViewOf (p .state)) Curved (d .id) false (listed (d .entries)) (d .mark) (take (d .«message_length») (d .message)) out (refusal-is ∙ z) in
+      let w = accepted-output (viewOf (p .shaper)) (textViewOf (p .state)) Curved (d .id) (listed (d .entries)) (d .mark) (take (d .«message_length») (d .message)) out (refusal-is ∙ z) in
       let n : g .length ≡ page .length = ap (λ (r : TextReply). r .length) replied in
       let o : after ≡ page .output = ap (λ (r : TextReply). r .output) replied in
       rw goes (record {
@@ -136,12 +136,12 @@ module _ (p : Progress) (d : Record) (out : List ℕ) where
       → Steps (listingRow (progressViewOf p) (recordViewOf d) out) p out last r
   mark-stops b last r h = rw b h
 
-  module _ (b : badMark ≡ false) (few : tooMany (d .entries) ≡ false) (g : RowAnswer) (u : Rows (p .shaper) (d .id) (d .entries) g) where
+  module _ (b : badMark ≡ false) (g : RowAnswer) (u : Rows (p .shaper) (d .id) (d .entries) g) where
     abbrev placed : RowReply
-    placed = row (viewOf (p .shaper)) (d .id) false (listed (d .entries))
+    placed = row (viewOf (p .shaper)) (d .id) (listed (d .entries))
 
     rowed-is : record { refusal = g .refusal; shape = g .shape; view = viewOf (g .shaper) } ≡ placed
-    rowed-is = u .reply ∙ rw few refl
+    rowed-is = u .reply
 
     row-refusal : placed .refusal ≡ g .refusal
     row-refusal = sym (ap (λ (r : RowReply). r .refusal) rowed-is)
@@ -164,7 +164,7 @@ module _ (p : Progress) (d : Record) (out : List ℕ) where
       bytes = listingBytes (g .shape) (d .mark)
 
       fits : g .shape .width ≤ columnLimit
-      fits = rw shape-is (row-fits (viewOf (p .shaper)) (d .id) false (listed (d .entries)) (row-refusal ∙ z))
+      fits = rw shape-is (row-fits (viewOf (p .shaper)) (d .id) (listed (d .entries)) (row-refusal ∙ z))
 
       -- the listing call refuses for want of room alone
       listing-refusal : w .refusal ≡ cond (ltb (length out) (length bytes)) 8 0

@@ -92,10 +92,10 @@ abbrev pub stepped : ℕ → ProgressView → List ℕ → List ℕ → View →
 stepped zero p out bytes v t = record { written = bytes; goesOn = true; after = record { view = v; text = t; number = next (p .number) } }
 stepped (suc n) p out bytes v t = stopped p (refusedIn out (suc n) (p .number))
 
--- "The page program writes text (curved, Persistent, Top)." A record has at most eight entries, so never too many
+-- "The page program writes text (curved, Persistent, Top)."
 abbrev pub pageRow : ProgressView → RecordView → List ℕ → StepReply
 pageRow p r out =
-    let t : TextReply = text (p .view) (p .text) Curved (r .id) false (r .entries) (r .mark) (r .message) out in
+    let t : TextReply = text (p .view) (p .text) Curved (r .id) (r .entries) (r .mark) (r .message) out in
     stepped (t .refusal) p out (take (t .length) (t .output)) (t .view) (t .text)
 
 -- "It tests the mark as text does (5, before the row) and ignores messages."
@@ -106,7 +106,7 @@ listingChecks mark r bytes out =
 -- a row of the listing program: its prefix lines
 abbrev pub listingRow : ProgressView → RecordView → List ℕ → StepReply
 listingRow p r out =
-    let q : RowReply = row (p .view) (r .id) false (r .entries) in
+    let q : RowReply = row (p .view) (r .id) (r .entries) in
     let bytes : List ℕ = listingBytes (q .shape) (r .mark) in
     stepped (refusal (listingChecks (r .mark) q bytes out)) p out bytes (q .view) (p .text)
 

@@ -2,9 +2,7 @@
 ghost use mathlib.Core.Path.{_≡_};
 ghost use Prim.Native.Nat.{_+_, _≤_};
 ghost use lib.ListN.{length};
-ghost use mathlib.Core.Bool.{false};
 ghost use mathlib.Core.List.{_++_};
-ghost use Rattle.render.specs.Entries.{tooMany};
 ghost use Rattle.glyphs.specs.Joins.{over};
 ghost use Rattle.record.specs.Record.{messageRoom};
 ghost use Rattle.record.specs.Promises.{recordViewOf};
@@ -179,7 +177,7 @@ fn without_record(out: &mut [u8], outcome: Outcome, progress: Progress) -> Step
 
 // Draws a record as text.
 fn page_row(out: &mut [u8], decoded: Record, progress: Progress) -> Step
-    requires { ⌜ (decoded .«message_length» ≤ messageRoom) × (tooMany (decoded .entries) ≡ false) ⌝ }
+    requires { ⌜ decoded .«message_length» ≤ messageRoom ⌝ }
     ensures { λ r. ⌜ Steps (pageRow (progressViewOf progress) (recordViewOf decoded) (now (out .entry))) progress (now (out .entry)) (now (out .exit)) r ⌝ }
 {
     let shaper = progress.shaper;
@@ -216,7 +214,6 @@ fn page_row(out: &mut [u8], decoded: Record, progress: Progress) -> Step
 
 // Draws a record as lines of the listing.
 fn listing_row(out: &mut [u8], decoded: Record, progress: Progress) -> Step
-    requires { ⌜ tooMany (decoded .entries) ≡ false ⌝ }
     ensures { λ r. ⌜ Steps (listingRow (progressViewOf progress) (recordViewOf decoded) (now (out .entry))) progress (now (out .entry)) (now (out .exit)) r ⌝ }
 {
     let mark = decoded.mark;

@@ -11,7 +11,7 @@ use Rattle.column.specs.Columns.{columnLimit, SpareEmpty}
 use Rattle.render.specs.declared.render.Ancestor.{Ancestor as Entry}
 use Rattle.render.specs.declared.render.Entries.{Entries}
 use Rattle.render.specs.declared.types.RowShape.{RowShape}
-use Rattle.render.specs.Entries.{listed, tooMany}
+use Rattle.render.specs.Entries.{listed}
 use Rattle.render.specs.Refusals.{refusal}
 use Rattle.shaper.specs.declared.Shaper.{Shaper}
 use Rattle.row_shape.specs.declared.RowAnswer.{RowAnswer}
@@ -33,12 +33,12 @@ use Rattle.text.specs.Inner.{RowTexts}
 -- an accepted row has at most 64 cells
 pub accepted-width : (s : Shaper) (n : ℕ) (es : Entries) (g : RowAnswer) → Rows s n es g → g .refusal ≡ 0 → g .shape .width ≤ columnLimit
 accepted-width s n es g u z =
-    let e : rowReplyOf g ≡ row (viewOf s) n (tooMany es) (listed es) = u .reply in
-    rw (ap (λ (r : RowReply). r .shape .width) e) (row-fits (viewOf s) n (tooMany es) (listed es) (sym (ap (λ (r : RowReply). r .refusal) e) ∙ z))
+    let e : rowReplyOf g ≡ row (viewOf s) n (listed es) = u .reply in
+    rw (ap (λ (r : RowReply). r .shape .width) e) (row-fits (viewOf s) n (listed es) (sym (ap (λ (r : RowReply). r .refusal) e) ∙ z))
 
 module _ (s : Shaper) (t : TextState) (q : Renderer) (n : ℕ) (es : Entries) (mark : ℕ) (message out : List ℕ) where
   abbrev called : RowReply
-  called = row (viewOf s) n (tooMany es) (listed es)
+  called = row (viewOf s) n (listed es)
 
   abbrev lines : List (List ℕ)
   lines = textLines (textViewOf t) q (called .shape) mark (linesOf message) (viewOf s .height)
@@ -56,7 +56,7 @@ module _ (s : Shaper) (t : TextState) (q : Renderer) (n : ℕ) (es : Entries) (m
         refused = λ z. (refl, refl);
         fits = λ z. absurd (omega (arith, z));
         options = refl;
-        rest = λ z. z;
+        rest = λ z. absurd (omega (arith, z));
       })
 
   abbrev badMark : Bool
@@ -132,5 +132,5 @@ module _ (s : Shaper) (t : TextState) (q : Renderer) (n : ℕ) (es : Entries) (m
                 refused = λ d. absurd (d refl);
                 fits = λ d. u .fits z;
                 options = u .options;
-                rest = u .rest;
+                rest = λ d. u .rest z;
               })

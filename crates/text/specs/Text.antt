@@ -120,10 +120,10 @@ textAnswer zero ls out v w t u =
     record { refusal = 0; length = length (textOf ls); measure = lineMeasure ls; output = over (textOf ls) out; view = w; text = u }
 textAnswer (suc n) ls out v w t u = record { refusal = suc n; length = 0; measure = 0; output = out; view = v; text = t }
 
--- the text call (`write_next_text` in graph_text_renderer.rs), where many says that there are too many entries
-unfoldable pub text : View → TextView → Renderer → ℕ → Bool → List Entry → ℕ → List ℕ → List ℕ → TextReply
-text v t q n many es mark message out =
-    let r : RowReply = row v n many es in
+-- the text call (`write_next_text` in graph_text_renderer.rs) on a list of any length
+unfoldable pub text : View → TextView → Renderer → ℕ → List Entry → ℕ → List ℕ → List ℕ → TextReply
+text v t q n es mark message out =
+    let r : RowReply = row v n es in
     let ms : List (List ℕ) = linesOf message in
     let ls : List (List ℕ) = textLines t q (r .shape) mark ms (v .height) in
     textAnswer (refusal (textChecks mark message r (textOf ls) out)) ls out v (r .view) t (textAfter q (r .shape) mark ms (v .height))

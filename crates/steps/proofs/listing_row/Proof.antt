@@ -25,7 +25,7 @@ returns-2 : tie.Need-returns-2
 returns-2 c =
     let c6 = c .before .before .before .before .before .before in
     let c11 = c6 .before .before .before .before .before in
-    row-stops (c11 .args .progress) (c11 .args .decoded) (c11 .args .out .now) (c6 .before .before .before .if1 .left) (c11 .pre) (c6 .next-row-shape .result) (c6 .next-row-shape .ensures) (c .before .before .before .before .if2 .taken) _ _ (c .before .before .refused2 .ensures)
+    row-stops (c11 .args .progress) (c11 .args .decoded) (c11 .args .out .now) (c6 .before .before .before .if1 .left) (c6 .next-row-shape .result) (c6 .next-row-shape .ensures) (c .before .before .before .before .if2 .taken) _ _ (c .before .before .refused2 .ensures)
 
 write-listing-requires : tie.Need-write-listing-requires
 write-listing-requires c κs = search needs
@@ -41,7 +41,7 @@ returns-3 c =
     let c8 = c .before .before .before .before .before .before .before .before in
     let c13 = c8 .before .before .before .before .before in
     let c18 = c13 .before .before .before .before .before in
-    room-stops (c18 .args .progress) (c18 .args .decoded) (c18 .args .out .now) (c13 .before .before .before .if1 .left) (c18 .pre) (c13 .next-row-shape .result) (c13 .next-row-shape .ensures) (c8 .before .before .before .if2 .left) (c8 .write-listing .result) _ (c8 .write-listing .ensures) (c .before .before .before .before .if3 .taken) _ _ (c .before .before .refused3 .ensures)
+    room-stops (c18 .args .progress) (c18 .args .decoded) (c18 .args .out .now) (c13 .before .before .before .if1 .left) (c13 .next-row-shape .result) (c13 .next-row-shape .ensures) (c8 .before .before .before .if2 .left) (c8 .write-listing .result) _ (c8 .write-listing .ensures) (c .before .before .before .before .if3 .taken) _ _ (c .before .before .refused3 .ensures)
 
 next-requires : tie.Need-next-requires
 next-requires c κs = search needs
@@ -54,7 +54,7 @@ returns-4 c =
     let c7 = c .before .before .before .before .before .before .before in
     let c12 = c7 .before .before .before .before .before in
     let c17 = c12 .before .before .before .before .before in
-    listing-goes (c17 .args .progress) (c17 .args .decoded) (c17 .args .out .now) (c12 .before .before .before .if1 .left) (c17 .pre) (c12 .next-row-shape .result) (c12 .next-row-shape .ensures) (c7 .before .before .before .if2 .left) (c7 .write-listing .result) _ (c7 .write-listing .ensures) _ (c .next .ensures) (c .before .before .before .if3 .left)
+    listing-goes (c17 .args .progress) (c17 .args .decoded) (c17 .args .out .now) (c12 .before .before .before .if1 .left) (c12 .next-row-shape .result) (c12 .next-row-shape .ensures) (c7 .before .before .before .if2 .left) (c7 .write-listing .result) _ (c7 .write-listing .ensures) _ (c .next .ensures) (c .before .before .before .if3 .left)
 
 pub listing-row-spec : {M : Type 1} → statement M
 listing-row-spec =
