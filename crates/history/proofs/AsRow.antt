@@ -10,8 +10,7 @@ use lib.ListN.{length}
 use Rattle.render.specs.declared.render.Ancestor.{Ancestor as Entry}
 use Rattle.render.specs.Refusals.{refusal}
 use Rattle.shaper.specs.Shaper.{View}
-use Rattle.row_shape.specs.Row.{RowReply}
-use Rattle.marked.specs.Marked.{rowOf}
+use Rattle.row_shape.specs.Row.{RowReply, row}
 use Rattle.message.specs.Message.{messageLimit, isWritable, allOf, linesOf}
 use Rattle.output.specs.Output.{textOf, TextView}
 use Rattle.text.specs.Text.{textLines, textAfter, textChecks, textAnswer, text}
@@ -31,7 +30,7 @@ number-told (suc k) ls out v w t u = refl
 
 module _ (v : View) (a : TextArguments) (n : ℕ) (es : List Entry) where
   abbrev called : RowReply
-  called = rowOf v n es
+  called = row v n es
 
   abbrev lines : List (List ℕ)
   lines = textLines (a .state) (a .renderer) (called .shape) (a .mark) (linesOf (a .message)) (v .height)
