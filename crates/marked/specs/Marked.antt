@@ -12,6 +12,7 @@ use Rattle.render.specs.declared.types.LinkLinePlacement.the-variants.{Top}
 use Rattle.render.specs.declared.types.Cell.{Cell}
 use Rattle.render.specs.Link.{linkOf}
 use Rattle.render.specs.Lines.{cellsOf}
+use Rattle.render.specs.Refusals.{noColumnLeft, nodeLineTooWide}
 use Rattle.width.specs.declared.NewNode.the-variants.{Node}
 use Rattle.shaper.specs.Shaper.{View, Reply, newShaper, reserve}
 use Rattle.placing.specs.Placing.{place}
@@ -178,10 +179,10 @@ m8 = record { made = refl; first = refl; second = refl; accepted = refl; present
 pub record M9 : Type 0 where
   pub made : new 1 false .refusal ≡ 0
   pub columns : length (reservations 64 .columns) ≡ 64
-  pub new-id : reserve (reservations 64) 100 .refusal ≡ 2
+  pub new-id : reserve (reservations 64) 100 .refusal ≡ noColumnLeft
   pub held-id : reserve (reservations 64) 5 .refusal ≡ 0
   pub one-parent : row (reservations 64) 5 (Parent 100 ∷ []) .refusal ≡ 0
-  pub two-parents : row (reservations 64) 5 (Parent 100 ∷ Parent 101 ∷ []) .refusal ≡ 4
+  pub two-parents : row (reservations 64) 5 (Parent 100 ∷ Parent 101 ∷ []) .refusal ≡ nodeLineTooWide
 
 pub m9 : M9
 unfolding reserve row place

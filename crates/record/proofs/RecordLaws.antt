@@ -14,7 +14,7 @@ use Rattle.render.specs.declared.render.Ancestor.the-variants.{Anonymous}
 use Rattle.render.specs.declared.render.Entry.{Entry}
 use Rattle.render.specs.declared.render.Entries.{Entries}
 use Rattle.render.specs.Entries.{entryLimit, listed, tooMany, pushed}
-use Rattle.render.specs.Refusals.{refusal}
+use Rattle.render.specs.Refusals.{recordCutShort, tooManyParents, kindAboveLimit, refusal}
 use Rattle.record.specs.declared.Outcome.{Outcome}
 use Rattle.record.specs.declared.Outcome.the-variants.{Ready, Ended, Refused}
 use Rattle.record.specs.declared.RecordAnswer.{RecordAnswer}
@@ -191,26 +191,26 @@ module _ (left : List ℕ) (r : RecordAnswer) where
       go (b ∷ bs) h = absurd (omega arith)
 
   module _ (some : length left ≡ 0 → ⊥) where
-    pub short-done : length left < recordLength → (r .outcome ≡ Refused 9) × (r .«record» ≡ recordWith noRecord) → Records left r
+    pub short-done : length left < recordLength → (r .outcome ≡ Refused recordCutShort) × (r .«record» ≡ recordWith noRecord) → Records left r
     unfolding nextRecord
-    short-done h = without (Refused 9) (rw (lt-ltb 0 (length left) (omega arith), lt-ltb (length left) recordLength h) refl)
+    short-done h = without (Refused recordCutShort) (rw (lt-ltb 0 (length left) (omega arith), lt-ltb (length left) recordLength h) refl)
 
     module _ (whole : recordLength ≤ length left) (parents : ℕ) (p : parents ≡ parentCount left) where
-      pub many-done : parentLimit < parents → (r .outcome ≡ Refused 10) × (r .«record» ≡ recordWith noRecord) → Records left r
+      pub many-done : parentLimit < parents → (r .outcome ≡ Refused tooManyParents) × (r .«record» ≡ recordWith noRecord) → Records left r
       unfolding nextRecord
       many-done h =
           let m : parentLimit < parentCount left = omega arith in
-          without (Refused 10) (rw (lt-ltb 0 (length left) (omega arith), le-ltb (length left) recordLength whole, lt-ltb parentLimit (parentCount left) m) refl)
+          without (Refused tooManyParents) (rw (lt-ltb 0 (length left) (omega arith), le-ltb (length left) recordLength whole, lt-ltb parentLimit (parentCount left) m) refl)
 
       module _ (few : parents ≤ parentLimit) where
         kinds : {t : Bool} → t ≡ anyAbove kindLimit (writtenFrom left 0 parents) → anyAbove kindLimit (used left) ≡ t
         kinds a = sym (a ∙ ap (λ (n : ℕ). anyAbove kindLimit (writtenFrom left 0 n)) p)
 
-        pub kind-done : true ≡ anyAbove kindLimit (writtenFrom left 0 parents) → (r .outcome ≡ Refused 11) × (r .«record» ≡ recordWith noRecord) → Records left r
+        pub kind-done : true ≡ anyAbove kindLimit (writtenFrom left 0 parents) → (r .outcome ≡ Refused kindAboveLimit) × (r .«record» ≡ recordWith noRecord) → Records left r
         unfolding nextRecord
         kind-done a =
             let m : parentCount left ≤ parentLimit = omega arith in
-            without (Refused 11)
+            without (Refused kindAboveLimit)
             (rw (lt-ltb 0 (length left) (omega arith), le-ltb (length left) recordLength whole, le-ltb parentLimit (parentCount left) m, kinds a) refl)
 
         pub ready-done : false ≡ anyAbove kindLimit (writtenFrom left 0 parents) → r .outcome ≡ Ready → r .«record» ≡ recordWith (recordOf left) → Records left r

@@ -1,6 +1,6 @@
 -- Laws of a step: what a record's row, drawn or refused, gives.
 use mathlib.Core.Path.{_≡_, refl, sym, ap, ap₂, _∙_}
-use mathlib.Core.Bool.{Bool, true, false, cond, _||_, true≢false}
+use mathlib.Core.Bool.{Bool, true, false, cond, true≢false}
 use mathlib.Core.List.{List, [], _∷_, map}
 use Prim.Native.Nat.{ℕ, zero, suc, _-_, _≤_}
 use mathlib.Core.Logic.{⊎-elim}
@@ -13,8 +13,11 @@ use lib.ListN.{length, take, drop, length-append, length-map}
 use lib.Seq.{take-append-seam}
 use Rattle.render.specs.declared.render.Ancestor.{Ancestor as Entry}
 use Rattle.render.specs.Entries.{listed}
-use Rattle.render.specs.Refusals.{refusal}
-use Rattle.shaper.specs.Shaper.{View, viewOf}
+use Rattle.render.specs.Mark.{isMark}
+use Rattle.render.specs.Refusals.{notRefused, markOutsideSpan, outputShorterThanLines, refusal}
+use Rattle.shaper.specs.declared.Answer.{Answer}
+use Rattle.shaper.specs.declared.Shaper.{Shaper}
+use Rattle.shaper.specs.Shaper.{View, Reply, viewOf, fresh, Fresh}
 use Rattle.row_shape.specs.declared.RowAnswer.{RowAnswer}
 use Rattle.row_shape.specs.Row.{RowReply, row}
 use Rattle.row_shape.specs.Promises.{Rows}
@@ -24,7 +27,7 @@ use Rattle.glyphs.specs.declared.Renderer.{Renderer}
 use Rattle.glyphs.specs.declared.Renderer.the-variants.{Curved}
 use Rattle.glyphs.specs.Joins.{over}
 use Rattle.prefix_lines.specs.declared.Written.{Written}
-use Rattle.prefix_lines.specs.PrefixLines.{Answer, answerOf, answered}
+use Rattle.prefix_lines.specs.PrefixLines.{Answer as LinesAnswer, answerOf, answered}
 use Rattle.prefix_lines.specs.Listing.{listingBytes, listing}
 use Rattle.output.specs.Output.{TextView, textViewOf, textOf}
 use Rattle.text.specs.declared.graph_text_renderer.TextAnswer.{TextAnswer}
@@ -40,8 +43,17 @@ use Rattle.record.proofs.Outcome.{the-type}
 use Rattle.record.specs.Promises.{recordViewOf, Records}
 use Rattle.steps.specs.declared.Progress.{Progress}
 use Rattle.steps.specs.declared.Step.{Step}
-use Rattle.steps.specs.Steps.{refusedIn, ProgressView, StepReply, stopped, stepped, next, pageRow, listingRow, onRecord}
-use Rattle.steps.specs.Promises.{progressViewOf, undrawn, Steps}
+use Rattle.steps.specs.Steps.{refusedIn, ProgressView, programOptions, StepReply, stopped, stepped, next, pageRow, listingRow, onRecord}
+use Rattle.steps.specs.Promises.{progressViewOf, freshText, Begins, undrawn, Steps}
+
+-- ---- what a program begins with
+pub begins : (a : Answer) → Fresh programOptions a → Begins (record { shaper = a .shaper; state = freshText; number = 0 })
+begins a f =
+    let z : a .refusal ≡ 0 = ap (λ (r : Reply). r .refusal) (f .reply) in
+    record {
+      reply = ap (λ (r : Reply). record { view = r .view; text = record { queued = []; height = 0 }; number = 0 }) (f .reply);
+      whole = ap (λ (s : Shaper). record { shaper = s; state = freshText; number = 0 }) (f .whole ∙ ap fresh (f .options z));
+    }
 
 -- ---- what a text call's definition says of a refusal and of what was written
 module _ (v : View) (t : TextView) (q : Renderer) (n : ℕ) (es : List Entry) (mark : ℕ) (message out : List ℕ) where
@@ -129,14 +141,11 @@ module _ (p : Progress) (d : Record) (out : List ℕ) (m : List ℕ) (same : m �
 
 -- ---- the listing's row
 module _ (p : Progress) (d : Record) (out : List ℕ) where
-  abbrev badMark : Bool
-  badMark = ltb (d .mark) 0x21 || ltb 0x7e (d .mark)
-
-  pub mark-stops : badMark ≡ true → (last : List ℕ) (r : Step) → Steps (stopped (progressViewOf p) (refusedIn out 5 (p .number))) p out last r
+  pub mark-stops : isMark (d .mark) ≡ false → (last : List ℕ) (r : Step) → Steps (stopped (progressViewOf p) (refusedIn out markOutsideSpan (p .number))) p out last r
       → Steps (listingRow (progressViewOf p) (recordViewOf d) out) p out last r
   mark-stops b last r h = rw b h
 
-  module _ (b : badMark ≡ false) (g : RowAnswer) (u : Rows (p .shaper) (d .id) (d .entries) g) where
+  module _ (b : isMark (d .mark) ≡ true) (g : RowAnswer) (u : Rows (p .shaper) (d .id) (d .entries) g) where
     abbrev placed : RowReply
     placed = row (viewOf (p .shaper)) (d .id) (listed (d .entries))
 
@@ -167,10 +176,10 @@ module _ (p : Progress) (d : Record) (out : List ℕ) where
       fits = rw shape-is (row-fits (viewOf (p .shaper)) (d .id) (listed (d .entries)) (row-refusal ∙ z))
 
       -- the listing call refuses for want of room alone
-      listing-refusal : w .refusal ≡ cond (ltb (length out) (length bytes)) 8 0
-      listing-refusal = ap (λ (a : Answer). a .refusal) y ∙ rw (b, le-ltb columnLimit (g .shape .width) fits) (number (ltb (length out) (length bytes)))
+      listing-refusal : w .refusal ≡ cond (ltb (length out) (length bytes)) outputShorterThanLines notRefused
+      listing-refusal = ap (λ (a : LinesAnswer). a .refusal) y ∙ rw (b, le-ltb columnLimit (g .shape .width) fits) (number (ltb (length out) (length bytes)))
         where
-          number : (c : Bool) → answered (cond c 8 0) bytes out .refusal ≡ cond c 8 0
+          number : (c : Bool) → answered (cond c outputShorterThanLines notRefused) bytes out .refusal ≡ cond c outputShorterThanLines notRefused
           number true = refl
           number false = refl
 
@@ -178,10 +187,10 @@ module _ (p : Progress) (d : Record) (out : List ℕ) where
           ≡ stepped (w .refusal) (progressViewOf p) out bytes (viewOf (g .shaper)) (textViewOf (p .state))
       step-is =
           rw (b, row-refusal, z)
-          (ap (λ (r : RowReply). stepped (cond (ltb (length out) (length (listingBytes (r .shape) (d .mark)))) 8 0) (progressViewOf p) out (listingBytes (r .shape) (d .mark)) (r .view) (textViewOf (p .state))) (sym rowed-is))
+          (ap (λ (r : RowReply). stepped (cond (ltb (length out) (length (listingBytes (r .shape) (d .mark)))) outputShorterThanLines notRefused) (progressViewOf p) out (listingBytes (r .shape) (d .mark)) (r .view) (textViewOf (p .state))) (sym rowed-is))
           ∙ ap (λ (k : ℕ). stepped k (progressViewOf p) out bytes (viewOf (g .shaper)) (textViewOf (p .state))) (sym listing-refusal)
 
-      kept : (c : Bool) → (_≡_ {A = ℕ} (cond c 8 0) 0 → ⊥) → answered (cond c 8 0) bytes out .output ≡ out
+      kept : (c : Bool) → (_≡_ {A = ℕ} (cond c outputShorterThanLines notRefused) 0 → ⊥) → answered (cond c outputShorterThanLines notRefused) bytes out .output ≡ out
       kept true f = refl
       kept false f = absurd (f refl)
 
@@ -191,7 +200,7 @@ module _ (p : Progress) (d : Record) (out : List ℕ) where
         where
           same : after ≡ out
           same =
-              ap (λ (a : Answer). a .output) y
+              ap (λ (a : LinesAnswer). a .output) y
               ∙ rw (b, le-ltb columnLimit (g .shape .width) fits) (kept (ltb (length out) (length bytes)) (λ e. f (listing-refusal ∙ e)))
 
           go : (k : ℕ) → w .refusal ≡ k → (k ≡ 0 → ⊥) → Steps (stopped (progressViewOf p) (refusedIn out k (p .number))) p out last r
@@ -206,14 +215,14 @@ module _ (p : Progress) (d : Record) (out : List ℕ) where
           let c : ltb (length out) (length bytes) ≡ false = room (ltb (length out) (length bytes)) (sym listing-refusal ∙ f) in
           let a : answerOf w after ≡ record { refusal = 0; length = length bytes; output = over bytes out } = y ∙ rw (b, le-ltb columnLimit (g .shape .width) fits, c) refl in
           rw (step-is, f) (record {
-            count = ap (λ (r : Answer). r .length) a;
-            output = ap (λ (r : Answer). r .output) a;
+            count = ap (λ (r : LinesAnswer). r .length) a;
+            output = ap (λ (r : LinesAnswer). r .output) a;
             goes = refl;
             keeps = ap (λ (n : ℕ). record { view = viewOf (g .shaper); text = textViewOf (p .state); number = n }) e;
             same = λ x. absurd (true≢false x);
           })
         where
-          room : (c : Bool) → _≡_ {A = ℕ} (cond c 8 0) 0 → c ≡ false
+          room : (c : Bool) → _≡_ {A = ℕ} (cond c outputShorterThanLines notRefused) 0 → c ≡ false
           room true h = absurd (omega (arith, h))
           room false h = refl
 

@@ -1,6 +1,6 @@
 -- Laws of the text call: its answers, one for each way out.
 use mathlib.Core.Path.{_≡_, refl, sym, ap, ap₂, _∙_}
-use mathlib.Core.Bool.{Bool, true, false, cond, not, _||_}
+use mathlib.Core.Bool.{Bool, true, false, cond, not}
 use mathlib.Core.List.{List, [], _∷_}
 use Prim.Native.Nat.{ℕ, zero, suc, _<_, _≤_, min}
 use native.Mathlib.Omega.{arith}
@@ -12,7 +12,8 @@ use Rattle.render.specs.declared.render.Ancestor.{Ancestor as Entry}
 use Rattle.render.specs.declared.render.Entries.{Entries}
 use Rattle.render.specs.declared.types.RowShape.{RowShape}
 use Rattle.render.specs.Entries.{listed}
-use Rattle.render.specs.Refusals.{refusal}
+use Rattle.render.specs.Mark.{isMark}
+use Rattle.render.specs.Refusals.{notRefused, markOutsideSpan, messageTooLong, messageByteNotWritable, outputShorterThanLines, refusal}
 use Rattle.shaper.specs.declared.Shaper.{Shaper}
 use Rattle.row_shape.specs.declared.RowAnswer.{RowAnswer}
 use Rattle.shaper.specs.Shaper.{View, viewOf}
@@ -59,21 +60,18 @@ module _ (s : Shaper) (t : TextState) (q : Renderer) (n : ℕ) (es : Entries) (m
         rest = λ z. absurd (omega (arith, z));
       })
 
-  abbrev badMark : Bool
-  badMark = ltb mark 0x21 || ltb 0x7e mark
-
   abbrev refusedWith : ℕ → TextAnswer
   refusedWith k = record { refusal = k; length = 0; measure = 0; shaper = s; state = t }
 
-  pub mark-refused : (r : TextAnswer) → badMark ≡ true → r ≡ refusedWith 5 → Texts s t q n es mark message out out r
+  pub mark-refused : (r : TextAnswer) → isMark mark ≡ false → r ≡ refusedWith markOutsideSpan → Texts s t q n es mark message out out r
   mark-refused r b e = refusing 4 r (rw b refl) e
 
-  module _ (b : badMark ≡ false) where
-    pub long-refused : (r : TextAnswer) → messageLimit < length message → r ≡ refusedWith 6 → Texts s t q n es mark message out out r
+  module _ (b : isMark mark ≡ true) where
+    pub long-refused : (r : TextAnswer) → messageLimit < length message → r ≡ refusedWith messageTooLong → Texts s t q n es mark message out out r
     long-refused r h e = refusing 5 r (rw (b, lt-ltb messageLimit (length message) h) refl) e
 
     module _ (h : length message ≤ messageLimit) where
-      pub byte-refused : (r : TextAnswer) → allOf isWritable message ≡ false → r ≡ refusedWith 7 → Texts s t q n es mark message out out r
+      pub byte-refused : (r : TextAnswer) → allOf isWritable message ≡ false → r ≡ refusedWith messageByteNotWritable → Texts s t q n es mark message out out r
       byte-refused r w e = refusing 6 r (rw (b, le-ltb messageLimit (length message) h, w) refl) e
 
       module _ (w : allOf isWritable message ≡ true) (g : RowAnswer) (u : Rows s n es g) where
@@ -104,7 +102,7 @@ module _ (s : Shaper) (t : TextState) (q : Renderer) (n : ℕ) (es : Entries) (m
 
           number-same : number ≡ x .refusal
           number-same =
-              rw (b, le-ltb messageLimit (length message) h, w, refusal-same, z) (ap (λ (l : List (List ℕ)). cond (ltb (length out) (length (textOf l))) 8 0) (sym drawn-same))
+              rw (b, le-ltb messageLimit (length message) h, w, refusal-same, z) (ap (λ (l : List (List ℕ)). cond (ltb (length out) (length (textOf l))) outputShorterThanLines notRefused) (sym drawn-same))
               ∙ sym (y .refusal)
 
           pub room-refused : (r : TextAnswer) → (x .refusal ≡ 0 → ⊥) → r ≡ refusedWith (x .refusal) → Texts s t q n es mark message out after r
