@@ -11,15 +11,15 @@ ghost use Rattle.row_shape.specs.Promises.{Rows};
 use column::COLUMN_LIMIT;
 use column::Found;
 use links::AncestorColumnBounds;
+use render::ACCEPTED;
 use render::Cell;
 use render::DashStyle;
 use render::Entries;
+use render::NODE_LINE_TOO_WIDE;
 use render::Options;
 use render::RowShape;
-use shaper::ACCEPTED;
-use shaper::NODE_LINE_TOO_WIDE;
+use render::TOO_MANY_ENTRIES;
 use shaper::Shaper;
-use shaper::TOO_MANY_ENTRIES;
 use shaper::find_column;
 
 // What the row call gives: the refusal's number, the shape, and the shaper after it.
