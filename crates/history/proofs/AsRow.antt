@@ -1,24 +1,24 @@
 -- A text call counts as the row call with its node and entries: where it is accepted so is the row, and the shaper after it is the row's; refused, it changes nothing.
 use Prim.Native.Nat.{ℕ, zero, suc}
 use mathlib.Core.Path.{_≡_, refl, sym, _∙_}
-use mathlib.Core.Bool.{Bool, true, false, cond, not, _||_}
+use mathlib.Core.Bool.{Bool, true, false, cond, not}
 use mathlib.Core.List.{List}
 use native.Mathlib.Omega.{arith}
 use borrow.Author.Tests.{eqb-true}
 use lib.Dec.{eqb, ltb}
 use lib.ListN.{length}
 use Rattle.render.specs.declared.render.Ancestor.{Ancestor as Entry}
-use Rattle.render.specs.Refusals.{refusal}
+use Rattle.render.specs.Mark.{isMark}
+use Rattle.render.specs.Refusals.{notRefused, markOutsideSpan, messageTooLong, messageByteNotWritable, outputShorterThanLines, refusal}
 use Rattle.shaper.specs.Shaper.{View}
-use Rattle.row_shape.specs.Row.{RowReply}
-use Rattle.marked.specs.Marked.{rowOf}
+use Rattle.row_shape.specs.Row.{RowReply, row}
 use Rattle.message.specs.Message.{messageLimit, isWritable, allOf, linesOf}
 use Rattle.output.specs.Output.{textOf, TextView}
 use Rattle.text.specs.Text.{textLines, textAfter, textChecks, textAnswer, text}
 use Rattle.history.specs.Ours.{TextArguments, textOn}
 
 -- where no check holds, the row's own refusal is none
-passes : (a b c z d : Bool) (r : ℕ) → eqb r 0 ≡ z → cond a 5 (cond b 6 (cond c 7 (cond (not z) r (cond d 8 0)))) ≡ 0 → r ≡ 0
+passes : (a b c z d : Bool) (r : ℕ) → eqb r 0 ≡ z → cond a markOutsideSpan (cond b messageTooLong (cond c messageByteNotWritable (cond (not z) r (cond d outputShorterThanLines notRefused)))) ≡ 0 → r ≡ 0
 passes true b c z d r e h = absurd (omega (arith, h))
 passes false true c z d r e h = absurd (omega (arith, h))
 passes false false true z d r e h = absurd (omega (arith, h))
@@ -31,7 +31,7 @@ number-told (suc k) ls out v w t u = refl
 
 module _ (v : View) (a : TextArguments) (n : ℕ) (es : List Entry) where
   abbrev called : RowReply
-  called = rowOf v n es
+  called = row v n es
 
   abbrev lines : List (List ℕ)
   lines = textLines (a .state) (a .renderer) (called .shape) (a .mark) (linesOf (a .message)) (v .height)
@@ -48,7 +48,7 @@ module _ (v : View) (a : TextArguments) (n : ℕ) (es : List Entry) where
 
   pub row-accepted : textOn v a n es .refusal ≡ 0 → called .refusal ≡ 0
   row-accepted h =
-      passes (ltb (a .mark) 0x21 || ltb 0x7e (a .mark)) (ltb messageLimit (length (a .message))) (not (allOf isWritable (a .message)))
+      passes (not (isMark (a .mark))) (ltb messageLimit (length (a .message))) (not (allOf isWritable (a .message)))
       (eqb (called .refusal) 0) (ltb (length (a .output)) (length (textOf lines))) (called .refusal) refl (sym number-is ∙ h)
 
   pub accepted-view : textOn v a n es .refusal ≡ 0 → textOn v a n es .view ≡ called .view

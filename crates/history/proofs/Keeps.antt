@@ -8,7 +8,6 @@ use mathlib.Core.Option.{Option·none-ne-some}
 use native.Mathlib.Omega.{arith}
 use native.Mathlib.Decide.{decLt}
 use lib.Dec.{ltb}
-use lib.ListN.{length}
 use Rattle.column.specs.declared.Column.{Column}
 use Rattle.column.specs.declared.Column.the-variants.{Empty}
 use Rattle.column.specs.declared.Found.{Found}
@@ -17,13 +16,12 @@ use Rattle.column.specs.Columns.{rank, find, vacant, put}
 use Rattle.render.specs.declared.render.Ancestor.{Ancestor as Entry}
 use Rattle.render.specs.declared.types.Options.{Options}
 use Rattle.render.specs.declared.types.RowShape.{RowShape}
-use Rattle.render.specs.Entries.{entryLimit, entryId}
+use Rattle.render.specs.Entries.{entryId}
 use Rattle.render.specs.Refusals.{refusal}
 use Rattle.shaper.specs.Shaper.{heightLimit, View, Reply, answer, newShaper, reserveChecks, reservedIn, reserved, withColumns, reserve}
 use Rattle.shaper.specs.NodeColumn.{nodeColumn}
 use Rattle.placing.specs.Placing.{Placed, placeAt, place}
 use Rattle.row_shape.specs.Row.{RowReply, rowChecks, shapeAt, rowAfter, rowAnswer, row, noShape}
-use Rattle.marked.specs.Marked.{rowOf}
 use Rattle.history.specs.Account.{Call, Reserve, Row, Waiting, nobody, account, waitsAfter}
 use Rattle.history.specs.Demand3.{Stroke, cell, Holds, Wait-in, Tidy, OneEntry, Own, Pulls, Moves, Drawn, isDrawn, waitingAfter, footAfter, Kept, Keeps, KeepsEveryLine}
 use Rattle.history.specs.Ours.{TextArguments, Item, Plain, Text, callOf, textOn, isRefusal, refuses, after, shapeOf, headLine, footLine, ours}
@@ -58,12 +56,12 @@ number-told : (r : ℕ) (v : View) (n : ℕ) (es : List Entry) (p : Placed) → 
 number-told zero v n es p = refl
 number-told (suc r) v n es p = refl
 
-row-reply : (v : View) (n : ℕ) (es : List Entry) (r : ℕ) → rowOf v n es .refusal ≡ r
-    → rowOf v n es ≡ rowAnswer r v n es (placeAt (nodeColumn v n) es (put (v .columns) (nodeColumn v n) Empty))
+row-reply : (v : View) (n : ℕ) (es : List Entry) (r : ℕ) → row v n es .refusal ≡ r
+    → row v n es ≡ rowAnswer r v n es (placeAt (nodeColumn v n) es (put (v .columns) (nodeColumn v n) Empty))
 unfolding row place
 row-reply v n es r h =
     let p : Placed = place v n es in
-    let k : ℕ = refusal (rowChecks (ltb entryLimit (length es)) p) in
+    let k : ℕ = refusal (rowChecks es p) in
     ap (λ (m : ℕ). rowAnswer m v n es p) (sym (number-told k v n es p) ∙ h)
 
 reserve-told : (r : ℕ) (v u : View) → answer r v u .refusal ≡ r
@@ -208,14 +206,14 @@ module _ (q : Renderer) where
             }
 
         -- an item that counts as this row is accepted, and the shaper after it is the row's
-        accepted-step : (k : Item) → callOf k ≡ Row n es → refuses v k ≡ false → after v k ≡ rowOf v n es .view → rowOf v n es .refusal ≡ 0 → Step v w f k
+        accepted-step : (k : Item) → callOf k ≡ Row n es → refuses v k ≡ false → after v k ≡ row v n es .view → row v n es .refusal ≡ 0 → Step v w f k
         accepted-step k s b a h =
-            let E : rowOf v n es ≡ rowAnswer zero v n es p = row-reply v n es zero h in
+            let E : row v n es ≡ rowAnswer zero v n es p = row-reply v n es zero h in
             known k false cs g b (ap (λ (u : View). u .columns) a ∙ ap (λ (r : RowReply). r .view .columns) E)
             (ap (shapeOf v) s ∙ ap (λ (r : RowReply). r .shape) E)
             (subst (λ (t : Call). Facts t false cs g) (sym s) row-facts)
 
-        row-step : (r : ℕ) → rowOf v n es .refusal ≡ r → Step v w f (Plain (Row n es))
+        row-step : (r : ℕ) → row v n es .refusal ≡ r → Step v w f (Plain (Row n es))
         row-step zero h = accepted-step (Plain (Row n es)) refl (ap isRefusal h) refl h
         row-step (suc r) h = refused-step (Plain (Row n es)) (ap isRefusal h) (ap (λ (r : RowReply). r .view .columns) (row-reply v n es (suc r) h))
 
@@ -226,7 +224,7 @@ module _ (q : Renderer) where
 
   step : (v : View) (w : Waiting) (f : List Stroke) (k : Item) → Inv v w f → Step v w f k
   step v w f (Plain (Reserve n)) I = reserve-step v w f I n (reserve v n .refusal) refl
-  step v w f (Plain (Row n es)) I = row-step v w f I n es (rowOf v n es .refusal) refl
+  step v w f (Plain (Row n es)) I = row-step v w f I n es (row v n es .refusal) refl
   step v w f (Text a n es) I = text-step v w f I n es a (textOn v a n es .refusal) refl
 
   keeps : (v : View) (w : Waiting) (f : List Stroke) → Inv v w f → (ks : List Item) → Keeps (ours q) v w f ks

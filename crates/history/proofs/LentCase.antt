@@ -1,12 +1,13 @@
 -- M7 as lent calls: contracts that a run meets, so that what is said of every run is said of some.
-use Prim.Native.Nat.{zero, suc}
-use mathlib.Core.Path.{refl, sym, ap}
+use Prim.Native.Nat.{ℕ, zero, suc}
+use mathlib.Core.Path.{_≡_, refl, sym, ap}
 use mathlib.Core.Bool.{false, false≢true}
-use mathlib.Core.List.{List, [], _∷_, replicate}
+use mathlib.Core.List.{List, [], _∷_}
 use native.Mathlib.Omega.{arith}
+use lib.ListN.{getD, replicate}
 use Rattle.column.specs.declared.Column.the-variants as column
 use Rattle.column.specs.declared.Found.the-variants.{At}
-use Rattle.column.specs.Columns.{emptySlot, SpareEmpty}
+use Rattle.column.specs.Columns.{emptySlot}
 use Rattle.render.specs.declared.types.DashStyle.the-variants.{Persistent}
 use Rattle.render.specs.declared.types.LinkLinePlacement.the-variants.{Top}
 use Rattle.render.specs.declared.types.Options.{Options}
@@ -49,21 +50,18 @@ reserves =
       refused = λ z. absurd (z refl);
       held = λ i z. absurd (false≢true (sym (ap isNothing z)));
       fits = λ a b. omega arith;
+      taken = λ a b. refl;
       options = refl;
-      rest = rest;
     }
-  where
-    rest : SpareEmpty 0 (fresh options .slots) → SpareEmpty 1 (reserved .slots)
-    rest h zero b = absurd (omega (arith, b))
-    rest h (suc i) b = h (suc i) (omega arith)
 
 rows : Met reserved (RowRan 9 [] ended (record { refusal = m7-row .refusal; shape = m7-row .shape }))
 unfolding reserve row place
-rows = record { reply = refl; refused = λ z. absurd (z refl); fits = λ z. omega arith; options = refl; rest = rest }
+rows = record { reply = refl; refused = λ z. absurd (z refl); fits = λ z. omega arith; options = refl; rest = λ z i h. spare 64 i }
   where
-    rest : SpareEmpty 1 (reserved .slots) → SpareEmpty 0 (ended .slots)
-    rest h zero b = refl
-    rest h (suc i) b = h (suc i) (omega arith)
+    spare : (n i : ℕ) → (getD (replicate n emptySlot) i emptySlot) .column ≡ column.Empty
+    spare zero i = refl
+    spare (suc n) zero = refl
+    spare (suc n) (suc i) = spare n i
 
 pub ran : Ran (new .shaper) calls
 ran = (reserves, (rows, tt))

@@ -1,29 +1,18 @@
 -- Demand 3 of the lent calls: what their contracts say of each is what our machine gives, so that the theorem speaks of what they leave.
-use mathlib.Core.Path.{_≡_, refl, sym, _∙_, ap, ap₂}
-use mathlib.Core.Bool.{Bool}
+use mathlib.Core.Path.{_≡_, refl, _∙_, ap, ap₂}
 use mathlib.Core.List.{List, [], _∷_, map}
-use lib.Dec.{ltb}
-use lib.ListN.{length, length-map}
-use Rattle.render.specs.declared.render.Entry.{Entry}
 use Rattle.render.specs.declared.types.Options.{Options}
-use Rattle.render.specs.Entries.{entryLimit}
 use Rattle.shaper.specs.declared.Shaper.{Shaper}
 use Rattle.shaper.specs.declared.Answer.{Answer}
 use Rattle.shaper.specs.Shaper.{View, Reply, viewOf, Fresh}
-use Rattle.row_shape.specs.Row.{RowReply, row}
-use Rattle.output.specs.Output.{textViewOf}
-use Rattle.text.specs.Text.{TextReply, text}
+use Rattle.row_shape.specs.Row.{RowReply}
+use Rattle.text.specs.Text.{TextReply}
 use Rattle.glyphs.specs.declared.Renderer.{Renderer}
-use Rattle.lineage.specs.Promises.{ancestors, tooLong}
 use Rattle.history.specs.Account.{Waiting, nobody}
 use Rattle.history.specs.Demand3.{Stroke, Kept, Keeps, KeepsEveryLine}
 use Rattle.history.specs.Ours.{isRefusal, refuses, after, callOf, shapeOf, ours}
 use Rattle.history.specs.LentCalls.{LentCall, ReserveRan, RowRan, TextRan, exit, number, Met, Ran, itemOf, lentShape, lent, leaves, verdicts}
 use Rattle.history.proofs.Keeps.{keeps-every-line}
-
--- a lent list is too long exactly if the list of its entries is
-long-same : (l : List Entry) → tooLong l ≡ ltb entryLimit (length (ancestors l))
-long-same l = ap (ltb entryLimit) (sym (length-map l (λ (e : Entry). e .ancestor)))
 
 -- what a call leaves and gives, and what our machine gives for it
 pub record Same (s : Shaper) (k : LentCall) : Type 0 where
@@ -34,11 +23,9 @@ pub record Same (s : Shaper) (k : LentCall) : Type 0 where
 same : (s : Shaper) (k : LentCall) → Met s k → Same s k
 same s (ReserveRan n s′ r) m = record { view = ap (λ (a : Reply). a .view) (m .reply); verdict = ap (λ (a : Reply). isRefusal (a .refusal)) (m .reply); shape = refl }
 same s (RowRan n l s′ r) m =
-    let e = m .reply ∙ ap (λ (b : Bool). row (viewOf s) n b (ancestors l)) (long-same l) in
-    record { view = ap (λ (a : RowReply). a .view) e; verdict = ap (λ (a : RowReply). isRefusal (a .refusal)) e; shape = ap (λ (a : RowReply). a .shape) e }
+    record { view = ap (λ (a : RowReply). a .view) (m .reply); verdict = ap (λ (a : RowReply). isRefusal (a .refusal)) (m .reply); shape = ap (λ (a : RowReply). a .shape) (m .reply) }
 same s (TextRan a s′) m =
-    let e = m .reply ∙ ap (λ (b : Bool). text (viewOf s) (textViewOf (a .state)) (a .renderer) (a .node) b (ancestors (a .entries)) (a .mark) (a .message) (a .output)) (long-same (a .entries)) in
-    record { view = ap (λ (a : TextReply). a .view) e; verdict = ap (λ (a : TextReply). isRefusal (a .refusal)) e; shape = refl }
+    record { view = ap (λ (a : TextReply). a .view) (m .reply); verdict = ap (λ (a : TextReply). isRefusal (a .refusal)) (m .reply); shape = refl }
 
 -- what the whole list leaves, and which calls were refused, is what our machine gives for it
 pub lent-calls-leave : (q : Renderer) (s : Shaper) (ks : List LentCall) → Ran s ks → viewOf (leaves (lent q) s ks) ≡ leaves (ours q) (viewOf s) (map itemOf ks)

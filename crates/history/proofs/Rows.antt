@@ -26,8 +26,8 @@ use Rattle.render.specs.Entries.{entryId}
 use Rattle.render.specs.Lines.{blankCell, nodeToPad, footPad, preNodeLine, postAncestryLine}
 use Rattle.shaper.specs.Shaper.{View}
 use Rattle.shaper.specs.NodeColumn.{dense, staggered, nodeColumn, head}
-use Rattle.placing.specs.Placing.{columnOf, spot, enter, walk, swap, gaveUp, swapped, dashed, placeAt, drawsAt}
-use Rattle.links.specs.declared.Met.{Met}
+use Rattle.placing.specs.Placing.{columnOf, parentColumn, enter, walk, swap, gaveUp, swapped, dashed, placeAt, kindOf, drawsAt}
+use Rattle.links.specs.declared.Drawn.{Drawn}
 use Rattle.links.specs.declared.Swap.{Swap}
 use Rattle.links.specs.declared.AncestorColumnBounds.{AncestorColumnBounds}
 use Rattle.links.specs.Links.{boundsOf, linked}
@@ -54,7 +54,7 @@ pub settle-moves : (c : ℕ) (es : List Entry) (cs : List Column) (w : Waiting) 
     × ((OneEntry x es → c < i → ⊥) → Holds (swapped (gaveUp c es cs) c (walk c es cs)) i x)
 settle-moves c [] cs w i x W b h = (λ o l. absurd o, λ n. h)
 settle-moves c (e ∷ f ∷ es) cs w i x W b h = (λ o l. absurd o, λ n. walk-stays c (e ∷ f ∷ es) cs i x h)
-settle-moves c (e ∷ []) cs w i x W b h = (pulled (spot c e cs) (spotIs c e cs), λ n. stays (spot c e cs) (spotIs c e cs) n (ltb c (spot c e cs)) refl)
+settle-moves c (e ∷ []) cs w i x W b h = (pulled (parentColumn c e cs) (spotIs c e cs), λ n. stays (parentColumn c e cs) (spotIs c e cs) n (ltb c (parentColumn c e cs)) refl)
   where
     inside : Holds (enter c e cs) i x
     inside = enter-stays c e cs i x h
@@ -206,12 +206,12 @@ strokes-of f cs w S W i = (
 gave-in : (c : ℕ) (es : List Entry) (cs : List Column) (q : ℕ) → gaveUp c es cs ≡ At q → q < length (walk c es cs)
 gave-in c [] cs q e = let z : _≡_ {A = ℕ} 0 1 = cc in absurd (omega arith)
 gave-in c (e ∷ f ∷ es) cs q h = let z : _≡_ {A = ℕ} 0 1 = cc in absurd (omega arith)
-gave-in c (e ∷ []) cs q h = go (ltb c (spot c e cs)) h
+gave-in c (e ∷ []) cs q h = go (ltb c (parentColumn c e cs)) h
   where
-    go : (t : Bool) → cond t (At (spot c e cs)) Nothing ≡ At q → q < length (enter c e cs)
+    go : (t : Bool) → cond t (At (parentColumn c e cs)) Nothing ≡ At q → q < length (enter c e cs)
     go true k =
-        let z : spot c e cs ≡ q = cc in
-        omega (arith, length-put cs (spot c e cs) (merge (at cs (spot c e cs)) (columnOf e)))
+        let z : parentColumn c e cs ≡ q = cc in
+        omega (arith, length-put cs (parentColumn c e cs) (merge (at cs (parentColumn c e cs)) (columnOf e)))
     go false k = let z : _≡_ {A = ℕ} 0 1 = cc in absurd (omega arith)
 
 module _ (v : View) (n : ℕ) (es : List Entry) where
@@ -245,7 +245,7 @@ module _ (v : View) (n : ℕ) (es : List Entry) where
   -- the shape's cells
   abbrev cellAt : ℕ → Cell
   cellAt i =
-      let draws : ℕ → Met = drawsAt (gaveUp c es bare) c es bare in
+      let draws : ℕ → Drawn = λ i. kindOf (drawsAt (gaveUp c es bare) c es bare i) in
       let r : AncestorColumnBounds = boundsOf (cellsFrom draws 0 width) c in
       let s : Swap = record { «given_up» = gaveUp c es bare; «was_direct» = isParent (at bare (orElse (gaveUp c es bare) c)) } in
       cellOf (linked r s) r s i (draws i) (at bare i) (at settled i)

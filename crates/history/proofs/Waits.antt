@@ -18,7 +18,7 @@ use Rattle.render.specs.declared.render.Ancestor.{Ancestor as Entry}
 use Rattle.render.specs.declared.render.Ancestor.the-variants.{Ancestor as Indirect, Parent as Direct, Anonymous}
 use Rattle.render.specs.Entries.{entryId}
 use Rattle.shaper.specs.Shaper.{reserved, reservedIn}
-use Rattle.placing.specs.Placing.{columnOf, spot, enter, walk}
+use Rattle.placing.specs.Placing.{columnOf, parentColumn, enter, walk}
 use Rattle.marked.proofs.Holding.{Where, away, there, findIs, at-vacant, Spot, taken, free, spotIs, spot-only, empty-holds, merge-empty, spot-id}
 use Rattle.history.specs.Account.{Reserve, Wait, Idle, AsReserved, AsNamed, Waiting, names, named, unlessWaiting, waitsAfter}
 use Rattle.history.specs.Demand3.{Holds, waitOf, Wait-in}
@@ -109,13 +109,13 @@ idle cs w W x h = go (w x) refl
     go AsReserved e = absurd (some-where (λ z. reserved≢idle (sym e ∙ z)))
     go AsNamed e = absurd (some-where (λ z. named≢idle (sym e ∙ z)))
 
--- who is in the spot is the id, and nobody else has it
+-- who is in the column is the id, and nobody else has it
 pub spot-alone : (o : Option ℕ) (cs : List Column) (w : Waiting) (k : ℕ) → Wait-in cs w → Spot o cs k
     → (i x : ℕ) → o ≡ some x → Holds cs i x → i ≡ k
 spot-alone o cs w k W (taken n e q) i x z h = W .one i k x h (q ∙ (sym e ∙ z))
 spot-alone o cs w k W (free e f) i x z h = absurd (f x i z h)
 
--- merging an entry into its spot leaves its id named there
+-- merging an entry into its column leaves its id named there
 merge-named : (c : Column) (e : Entry) (n : ℕ) → idOf c ≡ some n → entryId e ≡ some n → waitOf (merge c (columnOf e)) ≡ AsNamed
 merge-named Empty e n p q = absurd (Option·none-ne-some n p)
 merge-named Blocked e n p q = absurd (Option·none-ne-some n p)
@@ -153,7 +153,7 @@ abbrev pub naming : Entry → Waiting → Waiting
 naming e w x = cond (names x e) AsNamed (w x)
 
 pub enter-keeps : (c : ℕ) (e : Entry) (cs : List Column) (w : Waiting) → Wait-in cs w → Wait-in (enter c e cs) (naming e w)
-enter-keeps c e cs w W = go (spot c e cs) (spotIs c e cs)
+enter-keeps c e cs w W = go (parentColumn c e cs) (spotIs c e cs)
   where
     go : (k : ℕ) → Spot (entryId e) cs k → Wait-in (put cs k (merge (at cs k) (columnOf e))) (naming e w)
     go k S =

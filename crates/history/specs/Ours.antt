@@ -2,14 +2,11 @@
 use Prim.Native.Nat.{ℕ, zero, suc}
 use mathlib.Core.Bool.{Bool, true, false, cond}
 use mathlib.Core.List.{List, [], _∷_, map}
-use lib.Dec.{eqb, ltb}
-use lib.ListN.{length}
+use lib.Dec.{eqb}
 use Rattle.render.specs.declared.render.Ancestor.{Ancestor as Entry}
 use Rattle.render.specs.declared.types.RowShape.{RowShape}
-use Rattle.render.specs.Entries.{entryLimit}
 use Rattle.shaper.specs.Shaper.{View, reserve}
-use Rattle.row_shape.specs.Row.{noShape}
-use Rattle.marked.specs.Marked.{rowOf}
+use Rattle.row_shape.specs.Row.{noShape, row}
 use Rattle.glyphs.specs.declared.Renderer.{Renderer}
 use Rattle.glyphs.specs.declared.types.Choice.{Choice}
 use Rattle.glyphs.specs.declared.types.Choice.the-variants as choice
@@ -41,7 +38,7 @@ callOf (Text a n es) = Row n es
 
 -- the text call on a list of entries
 abbrev pub textOn : View → TextArguments → ℕ → List Entry → TextReply
-textOn v a n es = text v (a .state) (a .renderer) n (ltb entryLimit (length es)) es (a .mark) (a .message) (a .output)
+textOn v a n es = text v (a .state) (a .renderer) n es (a .mark) (a .message) (a .output)
 
 -- whether a number refuses
 abbrev pub isRefusal : ℕ → Bool
@@ -51,12 +48,12 @@ isRefusal (suc n) = true
 -- whether a reserving or row call is refused
 abbrev pub refusesCall : View → Call → Bool
 refusesCall v (Reserve n) = isRefusal (reserve v n .refusal)
-refusesCall v (Row n es) = isRefusal (rowOf v n es .refusal)
+refusesCall v (Row n es) = isRefusal (row v n es .refusal)
 
 -- the view after a reserving or row call
 abbrev pub afterCall : View → Call → View
 afterCall v (Reserve n) = reserve v n .view
-afterCall v (Row n es) = rowOf v n es .view
+afterCall v (Row n es) = row v n es .view
 
 -- whether any call of the list is refused, a text call by the definition of that call
 abbrev pub refuses : View → Item → Bool
@@ -71,7 +68,7 @@ after v (Text a n es) = textOn v a n es .view
 -- the shape of a row call; a reserving call has none
 abbrev pub shapeOf : View → Call → RowShape
 shapeOf v (Reserve n) = noShape
-shapeOf v (Row n es) = rowOf v n es .shape
+shapeOf v (Row n es) = row v n es .shape
 
 -- "A stroke in one is a cell for which the upright, solid or dashed, was chosen; a blank cell was given the space."
 abbrev pub strokeOf : Choice → Stroke

@@ -1,20 +1,20 @@
 -- What copying one entry after the other comes to: a list of at most thirty-two is copied whole, of a longer one there are too many.
-use mathlib.Core.Path.{_≡_, refl, sym, _∙_, ap, subst}
+use mathlib.Core.Path.{_≡_, refl, sym, _∙_, ap}
 use Prim.Native.Nat.{ℕ, zero, suc, _+_, _-_, _<_, _≤_}
 use native.Mathlib.Nat.{zero-add, suc-add}
 use native.Mathlib.Omega.{arith}
 use mathlib.Core.Bool.{Bool, true, false, cond}
 use mathlib.Core.List.{List, [], _∷_, _++_, append-assoc, append-nil}
-use borrow.Author.Tests.{lt-leb, le-leb, ltb-true, ltb-false}
-use lib.Dec.{T, leb}
-use lib.ListN.{length, set, replicate, length-append}
+use borrow.Author.Tests.{lt-leb, le-leb, ltb-true, ltb-false, le-ltb}
+use lib.Dec.{leb}
+use lib.ListN.{length, set, replicate, length-append, length-map}
 use lib.Seq.{take-at, set-at}
 use Rattle.render.specs.declared.render.Ancestor.the-variants.{Anonymous}
 use Rattle.render.specs.declared.render.Entry.{Entry}
 use Rattle.render.specs.declared.render.Entries.{Entries}
-use Rattle.render.specs.Entries.{entryLimit, listed, tooMany, pushed, noEntries}
+use Rattle.render.specs.Entries.{entryLimit, tooMany, overlong, listed, pushed, noEntries}
 use Rattle.lineage.specs.Copying.{copied}
-use Rattle.lineage.specs.Promises.{ancestors, tooLong, Copies}
+use Rattle.lineage.specs.Promises.{ancestors, Copies}
 
 abbrev pub none : Entry
 none = record { ancestor = Anonymous }
@@ -77,18 +77,16 @@ copied-past (e ∷ l) p (suc m) h g =
 
 -- ---- the copy
 pub copies : (l : List Entry) (r : Entries) → r ≡ copied noEntries l → Copies l r
-copies l r e = go (tooLong l) refl
+copies l r e = go (tooMany (ancestors l)) refl
   where
-    go : (t : Bool) → tooLong l ≡ t → Copies l r
+    same-long : length (ancestors l) ≡ length l
+    same-long = length-map l (λ (a : Entry). a .ancestor)
+
+    go : (t : Bool) → tooMany (ancestors l) ≡ t → listed r ≡ cond t overlong (ancestors l)
     go true q =
-        let m : r .«too_many» ≡ true = ap (λ (c : Entries). c .«too_many») e ∙ copied-past l [] entryLimit (omega arith) (ltb-true entryLimit (length l) q) in
-        record { many = rw (m, q) refl; same = λ f. absurd (differ (sym q ∙ f)) }
-      where
-        differ : true ≡ false → ⊥
-        differ h = subst T h tt
+        let h : entryLimit < length l = omega (arith, ltb-true entryLimit (length (ancestors l)) q, same-long) in
+        let m : r .«too_many» ≡ true = ap (λ (c : Entries). c .«too_many») e ∙ copied-past l [] entryLimit (omega arith) h in
+        rw m
     go false q =
-        let w : r ≡ whole l (entryLimit - length l) = e ∙ few l (ltb-false entryLimit (length l) q) in
-        record {
-          many = ap tooMany w;
-          same = λ f. ap listed w ∙ ap ancestors (take-at l (replicate (entryLimit - length l) none) (length l) refl);
-        }
+        let h : length l ≤ entryLimit = omega (arith, ltb-false entryLimit (length (ancestors l)) q, same-long) in
+        rw (e ∙ few l h, le-ltb entryLimit (length l) h) (ap ancestors (take-at l (replicate (entryLimit - length l) none) (length l) refl))

@@ -1,15 +1,12 @@
 -- What the lent calls promise: the same definitions as the by-value calls, at the lent list itself.
 use Prim.Native.Nat.{ℕ, _≤_}
 use mathlib.Core.Path.{_≡_}
-use mathlib.Core.Bool.{Bool, false}
 use mathlib.Core.List.{List, map}
-use lib.Dec.{ltb}
-use lib.ListN.{length}
 use Rattle.column.specs.Columns.{columnLimit, SpareEmpty}
 use Rattle.render.specs.declared.render.Ancestor.{Ancestor}
 use Rattle.render.specs.declared.render.Entry.{Entry}
 use Rattle.render.specs.declared.render.Entries.{Entries}
-use Rattle.render.specs.Entries.{entryLimit, listed, tooMany}
+use Rattle.render.specs.Entries.{listed, capped}
 use Rattle.shaper.specs.declared.Shaper.{Shaper}
 use Rattle.shaper.specs.declared.Answer.{Answer}
 use Rattle.shaper.specs.Shaper.{viewOf, Reserves}
@@ -30,14 +27,9 @@ use Rattle.lineage.specs.declared.LengthAnswer.{LengthAnswer}
 abbrev pub ancestors : List Entry → List Ancestor
 ancestors l = map (λ (e : Entry). e .ancestor) l
 
--- "more than 32 entries" (01, the table's row for row, width, text)
-abbrev pub tooLong : List Entry → Bool
-tooLong l = ltb entryLimit (length l)
-
--- the copy has too many entries exactly if the list has, else it lists the same
-pub record Copies (l : List Entry) (r : Entries) : Type 0 where
-  pub many : tooMany r ≡ tooLong l
-  pub same : tooLong l ≡ false → listed r ≡ ancestors l
+-- the copy stands for the list itself, or for one longer than the limit where the list is too long
+abbrev pub Copies : List Entry → Entries → Type 0
+Copies l r = listed r ≡ capped (ancestors l)
 
 -- ---- the calls, where s is the shaper at entry and s′ at exit
 
@@ -46,25 +38,26 @@ abbrev pub Reserved : Shaper → ℕ → Shaper → ℕ → Type 0
 Reserved s n s′ r = Reserves s n (record { refusal = r; shaper = s′ })
 
 -- the row call gives what the definition says at the list itself; a refusal leaves the struct itself as it was; else the raw count is at
--- most 64; the options stay; slots past the count stay Empty if they were
+-- most 64 and the slots past it are Empty; the options stay
 pub record Rowed (s : Shaper) (n : ℕ) (l : List Entry) (s′ : Shaper) (r : ShapeAnswer) : Type 0 where
-  pub reply : _≡_ {A = RowReply} (record { refusal = r .refusal; shape = r .shape; view = viewOf s′ }) (row (viewOf s) n (tooLong l) (ancestors l))
+  pub reply : _≡_ {A = RowReply} (record { refusal = r .refusal; shape = r .shape; view = viewOf s′ }) (row (viewOf s) n (ancestors l))
   pub refused : (r .refusal ≡ 0 → ⊥) → s′ ≡ s
   pub fits : r .refusal ≡ 0 → s′ .count ≤ columnLimit
   pub options : s′ .options ≡ s .options
-  pub rest : SpareEmpty (s .count) (s .slots) → SpareEmpty (s′ .count) (s′ .slots)
+  pub rest : r .refusal ≡ 0 → SpareEmpty (s′ .count) (s′ .slots)
 
 -- the width call gives what the definition says at the list itself
 abbrev pub Measured : Shaper → NewNode → List Entry → WidthAnswer → Type 0
-Measured s n l r = r ≡ width (viewOf s) n (tooLong l) (ancestors l)
+Measured s n l r = r ≡ width (viewOf s) n (ancestors l)
 
 -- the text call gives what the definition says at the list itself, t the text state at entry and t′ at exit, out the output at entry and
--- out′ at exit; a refusal leaves both structs and every output byte as they were
+-- out′ at exit; a refusal leaves both structs and every output byte as they were; else the raw count is at most 64 and the slots past it
+-- are Empty; the options stay
 pub record Written (s : Shaper) (t : TextState) (q : Renderer) (n : ℕ) (l : List Entry) (mark : ℕ) (message out : List ℕ) (s′ : Shaper) (t′ : TextState) (out′ : List ℕ) (r : LengthAnswer) : Type 0 where
   pub reply : _≡_ {A = TextReply}
       (record { refusal = r .refusal; length = r .length; measure = r .measure; output = out′; view = viewOf s′; text = textViewOf t′ })
-      (text (viewOf s) (textViewOf t) q n (tooLong l) (ancestors l) mark message out)
+      (text (viewOf s) (textViewOf t) q n (ancestors l) mark message out)
   pub refused : (r .refusal ≡ 0 → ⊥) → (s′ ≡ s) × (t′ ≡ t) × (out′ ≡ out)
   pub fits : r .refusal ≡ 0 → s′ .count ≤ columnLimit
   pub options : s′ .options ≡ s .options
-  pub rest : SpareEmpty (s .count) (s .slots) → SpareEmpty (s′ .count) (s′ .slots)
+  pub rest : r .refusal ≡ 0 → SpareEmpty (s′ .count) (s′ .slots)

@@ -25,7 +25,7 @@ use Rattle.render.specs.declared.types.DashStyle.the-variants.{Persistent, Once
 use Rattle.render.specs.Entries.{entryId}
 use Rattle.shaper.specs.Shaper.{View}
 use Rattle.shaper.specs.NodeColumn.{dense, staggered, unallocated, nodeColumn}
-use Rattle.placing.specs.Placing.{columnOf, spot, enter, walk, swap, gaveUp, swapped, dashed}
+use Rattle.placing.specs.Placing.{columnOf, parentColumn, enter, walk, swap, gaveUp, swapped, dashed}
 
 -- column i holds the id x
 abbrev pub Holds : List Column → ℕ → ℕ → Type 0
@@ -132,7 +132,7 @@ pub found-spot : (n : ℕ) (cs : List Column) (k : ℕ) → at cs k ≡ Empty �
 found-spot n cs k e o (there i q) = taken n refl q
 found-spot n cs k e o (away h) = free e (λ m i z q. h i (q ∙ sym z))
 
-pub spotIs : (c : ℕ) (e : Entry) (cs : List Column) → Spot (entryId e) cs (spot c e cs)
+pub spotIs : (c : ℕ) (e : Entry) (cs : List Column) → Spot (entryId e) cs (parentColumn c e cs)
 spotIs c (Indirect n) cs = found-spot n cs (orElse (findEmpty c cs) (length cs)) (at-free c cs) (find n cs) (findIs n cs)
 spotIs c (Direct n) cs = found-spot n cs (orElse (findEmpty c cs) (length cs)) (at-free c cs) (find n cs) (findIs n cs)
 spotIs c Anonymous cs = free (at-free c cs) (λ n i z q. Option·none-ne-some n z)
@@ -152,7 +152,7 @@ pub spot-only : (o : Option ℕ) (cs : List Column) (k : ℕ) → Spot o cs k �
 spot-only o cs k (taken n e q) x h = e ∙ (sym q ∙ h)
 spot-only o cs k (free e f) x h = absurd (empty-holds cs k x e h)
 
--- ---- merging an entry into its spot leaves the entry's id there
+-- ---- merging an entry into its column leaves the entry's id there
 pub merge-empty : (c : Column) (e : Entry) → c ≡ Empty → merge c (columnOf e) ≡ columnOf e
 merge-empty c e z = ap (λ (d : Column). merge d (columnOf e)) z ∙ go e
   where
@@ -179,7 +179,7 @@ spot-id e cs k (free z f) = ap idOf (merge-empty (at cs k) e z) ∙ column-id e
 
 -- ---- the entries leave every id where it is, and their own ids held
 pub enter-stays : (c : ℕ) (e : Entry) (cs : List Column) (i x : ℕ) → Holds cs i x → Holds (enter c e cs) i x
-enter-stays c e cs i x h = go (spot c e cs) (spotIs c e cs) (ℕ-discrete i (spot c e cs))
+enter-stays c e cs i x h = go (parentColumn c e cs) (spotIs c e cs) (ℕ-discrete i (parentColumn c e cs))
   where
     go : (k : ℕ) → Spot (entryId e) cs k → Dec (i ≡ k) → Holds (put cs k (merge (at cs k) (columnOf e))) i x
     go k S (no n) = simp at-put-other h
@@ -201,9 +201,9 @@ walk-holds c (e ∷ es) cs x h = go (λ z. walk-holds c es (enter c e cs) x z) (
     go : (named x es ≡ true → (i : ℕ) × Holds (walk c es (enter c e cs)) i x) → (t : Bool) → isId x (entryId e) ≡ t → (t || named x es) ≡ true
         → (i : ℕ) × Holds (walk c es (enter c e cs)) i x
     go rest true q z = (
-      spot c e cs,
-      walk-stays c es (enter c e cs) (spot c e cs) x
-          (rw (at-put-same cs (spot c e cs) (merge (at cs (spot c e cs)) (columnOf e))) (spot-id e cs (spot c e cs) (spotIs c e cs) ∙ isId-true x (entryId e) q)),
+      parentColumn c e cs,
+      walk-stays c es (enter c e cs) (parentColumn c e cs) x
+          (rw (at-put-same cs (parentColumn c e cs) (merge (at cs (parentColumn c e cs)) (columnOf e))) (spot-id e cs (parentColumn c e cs) (spotIs c e cs) ∙ isId-true x (entryId e) q)),
     )
     go rest false q z = rest z
 

@@ -25,7 +25,7 @@ use Rattle.glyphs.specs.declared.Renderer.{Renderer}
 use Rattle.glyphs.specs.declared.Renderer.the-variants.{Ascii, AsciiLarge, Square, Curved, Dec}
 use Rattle.glyphs.specs.Cells.{choiceOf, bytesOf, glyphsOf}
 use Rattle.text.specs.Text.{text}
-use Rattle.marked.specs.Marked.{plain, rowOf}
+use Rattle.marked.specs.Marked.{plain}
 use Rattle.marked.specs.Pages.{HistoryRow, newText, pageFrom}
 use Rattle.marked.proofs.Holding.{Holds, Where, away, there, findIs, named, row-holds}
 
@@ -33,13 +33,13 @@ use Rattle.marked.proofs.Holding.{Holds, Where, away, there, findIs, na
 abbrev made : ℕ → List Entry → HistoryRow
 made n es = record { node = n; entries = es; message = [] }
 
-accepted-first : (v : View) (n : ℕ) → v .columns ≡ [] → v .previous ≡ Nothing → (b : Bool) → dense v ≡ b → row v n false [] .refusal ≡ 0
+accepted-first : (v : View) (n : ℕ) → v .columns ≡ [] → v .previous ≡ Nothing → (b : Bool) → dense v ≡ b → row v n [] .refusal ≡ 0
 unfolding row place
 accepted-first v n e p true q = rw (e, q, p)
 accepted-first v n e p false q = rw (e, q)
 
 -- some row is accepted on every new shaper, a refused one too: each row without entries
-pub new-accepts : (o : Options) (n : ℕ) → row (newShaper o .view) n false [] .refusal ≡ 0
+pub new-accepts : (o : Options) (n : ℕ) → row (newShaper o .view) n [] .refusal ≡ 0
 new-accepts o n = go (ltb heightLimit (o .«min_row_height»)) refl
   where
     columns : (b : Bool) → ltb heightLimit (o .«min_row_height») ≡ b → newShaper o .view .columns ≡ []
@@ -50,7 +50,7 @@ new-accepts o n = go (ltb heightLimit (o .«min_row_height»)) refl
     previous true q = rw q
     previous false q = rw q
 
-    go : (b : Bool) → ltb heightLimit (o .«min_row_height») ≡ b → row (newShaper o .view) n false [] .refusal ≡ 0
+    go : (b : Bool) → ltb heightLimit (o .«min_row_height») ≡ b → row (newShaper o .view) n [] .refusal ≡ 0
     go b q = accepted-first (newShaper o .view) n (columns b q) (previous b q) (dense (newShaper o .view)) refl
 
 -- two histories have different pages in every renderer: a build made from another directly, and indirectly
@@ -63,17 +63,17 @@ pages-differ Curved e = let z : _≡_ {A = ℕ} 2 6 = ap length e in omega (arit
 pages-differ Dec e = let z : _≡_ {A = ℕ} 2 11 = ap length e in omega (arith, z)
 
 -- two rows have different shapes: one parent and two parents of the same node on the same shaper
-pub shapes-differ : rowOf plain 5 (Parent 7 ∷ []) .shape ≢ rowOf plain 5 (Parent 7 ∷ Parent 8 ∷ []) .shape
+pub shapes-differ : row plain 5 (Parent 7 ∷ []) .shape ≢ row plain 5 (Parent 7 ∷ Parent 8 ∷ []) .shape
 unfolding row place
 shapes-differ e = let z : _≡_ {A = ℕ} 1 2 = ap (λ g. g .width) e in omega arith
 
 -- an accepted row with a parent that no column holds changes the columns
 module _ (v : View) (n : ℕ) (es : List Entry) (x : ℕ) (h : named x es ≡ true) (u : find x (v .columns) ≡ Nothing) where
-  held-after : row v n false es .refusal ≡ 0 → (i : ℕ) × Holds (row v n false es .view .columns) i x
+  held-after : row v n es .refusal ≡ 0 → (i : ℕ) × Holds (row v n es .view .columns) i x
   unfolding row place
-  held-after a = go (refusal (rowChecks false (place v n es))) refl
+  held-after a = go (refusal (rowChecks es (place v n es))) refl
     where
-      go : (r : ℕ) → refusal (rowChecks false (place v n es)) ≡ r → (i : ℕ) × Holds (row v n false es .view .columns) i x
+      go : (r : ℕ) → refusal (rowChecks es (place v n es)) ≡ r → (i : ℕ) × Holds (row v n es .view .columns) i x
       go zero q = rw q (row-holds (v .style .«dash_style») (nodeColumn v n) es (put (v .columns) (nodeColumn v n) Empty) x h)
       go (suc r) q = let z : suc r ≡ 0 = rw q at a in absurd (omega arith)
 
@@ -81,7 +81,7 @@ module _ (v : View) (n : ℕ) (es : List Entry) (x : ℕ) (h : named x es ≡ tr
   not-before f e (away g) i q = g i q
   not-before f e (there j g) i q = let z : _≡_ {A = ℕ} 0 1 = cc in omega arith
 
-  pub unheld-changes : row v n false es .refusal ≡ 0 → row v n false es .view .columns ≢ v .columns
+  pub unheld-changes : row v n es .refusal ≡ 0 → row v n es .view .columns ≢ v .columns
   unheld-changes a e =
       let p = held-after a in
       not-before (find x (v .columns)) refl (findIs x (v .columns)) (p .0) (subst (λ (cs : List Column). Holds cs (p .0) x) e (p .1))

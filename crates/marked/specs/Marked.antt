@@ -3,34 +3,21 @@ use Prim.Native.Nat.{ℕ, zero, suc}
 use mathlib.Core.Path.{_≡_, refl}
 use mathlib.Core.Bool.{Bool, true, false}
 use mathlib.Core.List.{List, [], _∷_, map}
-use lib.Dec.{ltb}
-use lib.ListN.{length, take}
-use Rattle.column.specs.declared.Column.{Column}
+use lib.ListN.{length}
 use Rattle.column.specs.declared.Column.the-variants as column
-use Rattle.render.specs.declared.render.Ancestor.{Ancestor as Entry}
 use Rattle.render.specs.declared.render.Ancestor.the-variants.{Ancestor, Parent, Anonymous}
-use Rattle.render.specs.declared.render.LinkLine.{LinkLine}
 use Rattle.render.specs.declared.render.Marks.{Marks}
 use Rattle.render.specs.declared.types.DashStyle.the-variants.{Persistent}
 use Rattle.render.specs.declared.types.LinkLinePlacement.the-variants.{Top}
 use Rattle.render.specs.declared.types.Cell.{Cell}
-use Rattle.render.specs.declared.types.Options.{Options}
-use Rattle.render.specs.Entries.{entryLimit}
 use Rattle.render.specs.Link.{linkOf}
 use Rattle.render.specs.Lines.{cellsOf}
+use Rattle.render.specs.Refusals.{noColumnLeft, nodeLineTooWide}
 use Rattle.width.specs.declared.NewNode.the-variants.{Node}
 use Rattle.shaper.specs.Shaper.{View, Reply, newShaper, reserve}
 use Rattle.placing.specs.Placing.{place}
 use Rattle.row_shape.specs.Row.{RowReply, row}
-use Rattle.width.specs.declared.WidthAnswer.{WidthAnswer}
 use Rattle.width.specs.Width.{width}
-
--- the row call on a list of entries
-abbrev pub rowOf : View → ℕ → List Entry → RowReply
-rowOf v n es = row v n (ltb entryLimit (length es)) es
-
-abbrev pub widthOf : View → ℕ → List Entry → WidthAnswer
-widthOf v n es = width v (Node n) (ltb entryLimit (length es)) es
 
 -- a new shaper with Persistent dashes and Top
 abbrev pub new : ℕ → Bool → Reply
@@ -51,53 +38,57 @@ reservations zero = plain
 reservations (suc n) = reserve (reservations n) n .view
 
 pub record M2 : Type 0 where
-  pub first : rowOf plain 1 [] .refusal ≡ 0
-  pub first-column : rowOf plain 1 [] .shape .«node_column» ≡ 0
-  pub first-separator : rowOf plain 1 [] .shape .«separator_line» ≡ false
-  pub second : rowOf (rowOf plain 1 [] .view) 2 [] .refusal ≡ 0
-  pub second-column : rowOf (rowOf plain 1 [] .view) 2 [] .shape .«node_column» ≡ 0
-  pub second-separator : rowOf (rowOf plain 1 [] .view) 2 [] .shape .«separator_line» ≡ true
+  pub made : new 1 false .refusal ≡ 0
+  pub first : row plain 1 [] .refusal ≡ 0
+  pub first-column : row plain 1 [] .shape .«node_column» ≡ 0
+  pub first-separator : row plain 1 [] .shape .«separator_line» ≡ false
+  pub second : row (row plain 1 [] .view) 2 [] .refusal ≡ 0
+  pub second-column : row (row plain 1 [] .view) 2 [] .shape .«node_column» ≡ 0
+  pub second-separator : row (row plain 1 [] .view) 2 [] .shape .«separator_line» ≡ true
 
 pub m2 : M2
 unfolding row place
-m2 = record { first = refl; first-column = refl; first-separator = refl; second = refl; second-column = refl; second-separator = refl }
+m2 = record { made = refl; first = refl; first-column = refl; first-separator = refl; second = refl; second-column = refl; second-separator = refl }
 
 abbrev pub m3-one : RowReply
-m3-one = rowOf (new 1 true .view) 1 []
+m3-one = row (new 1 true .view) 1 []
 
 abbrev pub m3-two : RowReply
-m3-two = rowOf (m3-one .view) 2 []
+m3-two = row (m3-one .view) 2 []
 
 abbrev pub m3-three : RowReply
-m3-three = rowOf (m3-two .view) 3 []
+m3-three = row (m3-two .view) 3 []
 
 pub record M3 : Type 0 where
+  pub made : new 1 true .refusal ≡ 0
   pub accepted : map (λ (r : RowReply). r .refusal) (m3-one ∷ m3-two ∷ m3-three ∷ []) ≡ 0 ∷ 0 ∷ 0 ∷ []
   pub columns : map (λ (r : RowReply). r .shape .«node_column») (m3-one ∷ m3-two ∷ m3-three ∷ []) ≡ 0 ∷ 1 ∷ 0 ∷ []
 
 pub m3 : M3
 unfolding row place
-m3 = record { accepted = refl; columns = refl }
+m3 = record { made = refl; accepted = refl; columns = refl }
 
 abbrev pub m4-one : RowReply
-m4-one = rowOf (new 2 true .view) 1 []
+m4-one = row (new 2 true .view) 1 []
 
 abbrev pub m4-two : RowReply
-m4-two = rowOf (m4-one .view) 2 []
+m4-two = row (m4-one .view) 2 []
 
 pub record M4 : Type 0 where
+  pub made : new 2 true .refusal ≡ 0
   pub accepted : map (λ (r : RowReply). r .refusal) (m4-one ∷ m4-two ∷ []) ≡ 0 ∷ 0 ∷ []
   pub columns : map (λ (r : RowReply). r .shape .«node_column») (m4-one ∷ m4-two ∷ []) ≡ 0 ∷ 0 ∷ []
   pub separators : map (λ (r : RowReply). r .shape .«separator_line») (m4-one ∷ m4-two ∷ []) ≡ false ∷ false ∷ []
 
 pub m4 : M4
 unfolding row place
-m4 = record { accepted = refl; columns = refl; separators = refl }
+m4 = record { made = refl; accepted = refl; columns = refl; separators = refl }
 
 abbrev pub m5-row : RowReply
-m5-row = rowOf plain 5 (Parent 7 ∷ Ancestor 7 ∷ [])
+m5-row = row plain 5 (Parent 7 ∷ Ancestor 7 ∷ [])
 
 pub record M5 : Type 0 where
+  pub made : new 1 false .refusal ≡ 0
   pub accepted : m5-row .refusal ≡ 0
   pub columns : m5-row .view .columns ≡ column.Parent 7 ∷ []
   pub merge : m5-row .shape .merge ≡ true
@@ -105,12 +96,13 @@ pub record M5 : Type 0 where
 
 pub m5 : M5
 unfolding row place
-m5 = record { accepted = refl; columns = refl; merge = refl; link = refl }
+m5 = record { made = refl; accepted = refl; columns = refl; merge = refl; link = refl }
 
 abbrev pub m6-row : RowReply
-m6-row = rowOf plain 5 (Anonymous ∷ Anonymous ∷ [])
+m6-row = row plain 5 (Anonymous ∷ Anonymous ∷ [])
 
 pub record M6 : Type 0 where
+  pub made : new 1 false .refusal ≡ 0
   pub accepted : m6-row .refusal ≡ 0
   pub term : m6-row .shape .«term_line» ≡ true
   pub terms : map (λ (c : Cell). c .term) (cellsOf (m6-row .shape)) ≡ true ∷ true ∷ []
@@ -118,12 +110,13 @@ pub record M6 : Type 0 where
 
 pub m6 : M6
 unfolding row place
-m6 = record { accepted = refl; term = refl; terms = refl; columns = refl }
+m6 = record { made = refl; accepted = refl; term = refl; terms = refl; columns = refl }
 
 abbrev pub m7-row : RowReply
-m7-row = rowOf (reserve plain 9 .view) 9 []
+m7-row = row (reserve plain 9 .view) 9 []
 
 pub record M7 : Type 0 where
+  pub made : new 1 false .refusal ≡ 0
   pub reserved : reserve plain 9 .refusal ≡ 0
   pub accepted : m7-row .refusal ≡ 0
   pub column : m7-row .shape .«node_column» ≡ 0
@@ -131,10 +124,10 @@ pub record M7 : Type 0 where
 
 pub m7 : M7
 unfolding reserve row place
-m7 = record { reserved = refl; accepted = refl; column = refl; head = refl }
+m7 = record { made = refl; reserved = refl; accepted = refl; column = refl; head = refl }
 
 abbrev pub m8-row : RowReply
-m8-row = rowOf (reserve (reserve plain 6 .view) 4 .view) 6 (Parent 4 ∷ [])
+m8-row = row (reserve (reserve plain 6 .view) 4 .view) 6 (Parent 4 ∷ [])
 
 abbrev pub m8-marks : List Marks
 m8-marks =
@@ -171,6 +164,7 @@ m8-marks =
     ∷ []
 
 pub record M8 : Type 0 where
+  pub made : new 1 false .refusal ≡ 0
   pub first : reserve plain 6 .refusal ≡ 0
   pub second : reserve (reserve plain 6 .view) 4 .refusal ≡ 0
   pub accepted : m8-row .refusal ≡ 0
@@ -180,32 +174,38 @@ pub record M8 : Type 0 where
 
 pub m8 : M8
 unfolding reserve row place
-m8 = record { first = refl; second = refl; accepted = refl; present = refl; link = refl; columns = refl }
+m8 = record { made = refl; first = refl; second = refl; accepted = refl; present = refl; link = refl; columns = refl }
 
 pub record M9 : Type 0 where
+  pub made : new 1 false .refusal ≡ 0
   pub columns : length (reservations 64 .columns) ≡ 64
-  pub new-id : reserve (reservations 64) 100 .refusal ≡ 2
+  pub new-id : reserve (reservations 64) 100 .refusal ≡ noColumnLeft
   pub held-id : reserve (reservations 64) 5 .refusal ≡ 0
-  pub one-parent : rowOf (reservations 64) 5 (Parent 100 ∷ []) .refusal ≡ 0
-  pub two-parents : rowOf (reservations 64) 5 (Parent 100 ∷ Parent 101 ∷ []) .refusal ≡ 4
+  pub one-parent : row (reservations 64) 5 (Parent 100 ∷ []) .refusal ≡ 0
+  pub two-parents : row (reservations 64) 5 (Parent 100 ∷ Parent 101 ∷ []) .refusal ≡ nodeLineTooWide
 
 pub m9 : M9
 unfolding reserve row place
-m9 = record { columns = refl; new-id = refl; held-id = refl; one-parent = refl; two-parents = refl }
+m9 = record { made = refl; columns = refl; new-id = refl; held-id = refl; one-parent = refl; two-parents = refl }
+
+abbrev pub m10-first : RowReply
+m10-first = row plain 1 (Parent 7 ∷ [])
 
 abbrev pub m10-view : View
-m10-view = rowOf plain 1 (Parent 7 ∷ []) .view
+m10-view = m10-first .view
 
 pub record M10 : Type 0 where
+  pub made : new 1 false .refusal ≡ 0
+  pub first : m10-first .refusal ≡ 0
   pub columns : m10-view .columns ≡ column.Parent 7 ∷ []
-  pub width-accepted : widthOf m10-view 7 (Parent 7 ∷ Parent 8 ∷ []) .refusal ≡ 0
-  pub width : widthOf m10-view 7 (Parent 7 ∷ Parent 8 ∷ []) .width ≡ 1
-  pub accepted : rowOf m10-view 7 (Parent 7 ∷ Parent 8 ∷ []) .refusal ≡ 0
-  pub cells : length (cellsOf (rowOf m10-view 7 (Parent 7 ∷ Parent 8 ∷ []) .shape)) ≡ 2
+  pub width-accepted : width m10-view (Node 7) (Parent 7 ∷ Parent 8 ∷ []) .refusal ≡ 0
+  pub width : width m10-view (Node 7) (Parent 7 ∷ Parent 8 ∷ []) .width ≡ 1
+  pub accepted : row m10-view 7 (Parent 7 ∷ Parent 8 ∷ []) .refusal ≡ 0
+  pub cells : length (cellsOf (row m10-view 7 (Parent 7 ∷ Parent 8 ∷ []) .shape)) ≡ 2
 
 pub m10 : M10
 unfolding row place width
-m10 = record { columns = refl; width-accepted = refl; width = refl; accepted = refl; cells = refl }
+m10 = record { made = refl; first = refl; columns = refl; width-accepted = refl; width = refl; accepted = refl; cells = refl }
 
 -- ready to stand under the single theorem with M1
 pub record Marked : Type 0 where

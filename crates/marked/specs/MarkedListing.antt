@@ -1,6 +1,6 @@
 -- Document 01's marked rows M1: the whole listing, from the records' bytes to the bytes that are written, closed by computing.
 use Prim.Native.Nat.{ℕ, zero, suc, _-_}
-use Prim.Native.Char.{Char, code}
+use Prim.Native.Char.{code}
 use Prim.Native.String.{String, [] as none, _∷_ as _then_}
 use mathlib.Core.Path.{_≡_, refl}
 use mathlib.Core.Bool.{cond}

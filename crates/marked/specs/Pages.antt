@@ -1,10 +1,8 @@
 -- The page of a history: the text of its rows, one after the other.
 use Prim.Native.Nat.{ℕ}
 use mathlib.Core.List.{List, [], _∷_, _++_}
-use lib.Dec.{ltb}
-use lib.ListN.{length, take, replicate}
+use lib.ListN.{take, replicate}
 use Rattle.render.specs.declared.render.Ancestor.{Ancestor as Entry}
-use Rattle.render.specs.Entries.{entryLimit}
 use Rattle.shaper.specs.Shaper.{View}
 use Rattle.glyphs.specs.declared.Renderer.{Renderer}
 use Rattle.output.specs.Output.{TextView}
@@ -24,5 +22,5 @@ newText = record { queued = []; height = 0 }
 abbrev pub pageFrom : View → TextView → Renderer → ℕ → ℕ → List HistoryRow → List ℕ
 pageFrom v t q mark room [] = []
 pageFrom v t q mark room (b ∷ bs) =
-    let r : TextReply = text v t q (b .node) (ltb entryLimit (length (b .entries))) (b .entries) mark (b .message) (replicate room 0) in
+    let r : TextReply = text v t q (b .node) (b .entries) mark (b .message) (replicate room 0) in
     take (r .length) (r .output) ++ pageFrom (r .view) (r .text) q mark room bs

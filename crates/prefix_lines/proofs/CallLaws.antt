@@ -1,16 +1,16 @@
 -- Laws of the renderer call and the listing call: their bytes line by line, their answers, when they accept, and how much they can write.
 use mathlib.Core.Path.{_≡_, refl, ap, _∙_, fun-ext}
-use mathlib.Core.Bool.{Bool, true, false, cond, _||_}
+use mathlib.Core.Bool.{Bool, true, false, cond}
 use mathlib.Core.List.{List, [], _∷_, _++_, map}
 use Prim.Native.Nat.{ℕ, _+_, _*_, _<_, _≤_}
 use native.Mathlib.Omega.{arith}
-use lib.Dec.{ltb}
 use lib.ListN.{length, length-take}
 use borrow.Author.Tests.{lt-ltb, le-ltb}
 use Rattle.column.specs.Columns.{columnLimit}
 use Rattle.render.specs.declared.types.RowShape.{RowShape}
 use Rattle.render.specs.Lines.{cellsOf}
-use Rattle.render.specs.Refusals.{refusal}
+use Rattle.render.specs.Mark.{isMark}
+use Rattle.render.specs.Refusals.{markOutsideSpan, outputShorterThanLines, shapeTooWide, refusal}
 use Rattle.glyphs.specs.declared.Renderer.{Renderer}
 use Rattle.glyphs.specs.declared.Renderer.the-variants.{Ascii}
 use Rattle.glyphs.specs.declared.types.Choice.{Choice}
@@ -80,14 +80,11 @@ listed-answer g mark out e = rw (listed-bytes g mark) at e
 
 -- ---- the answers
 module _ (f : Frame) (g : RowShape) (q : Renderer) (mark : ℕ) (out : List ℕ) where
-  abbrev badMark : Bool
-  badMark = ltb mark 0x21 || ltb 0x7e mark
-
-  pub mark-refused : (w : Written) → badMark ≡ true → (w .refusal ≡ 5) × (w .length ≡ 0) → answerOf w out ≡ framedAnswer f g q mark out
+  pub mark-refused : (w : Written) → isMark mark ≡ false → (w .refusal ≡ markOutsideSpan) × (w .length ≡ 0) → answerOf w out ≡ framedAnswer f g q mark out
   mark-refused w b h = rw (b, h .0, h .1)
 
-  module _ (b : badMark ≡ false) where
-    pub width-refused : (w : Written) → columnLimit < g .width → (w .refusal ≡ 12) × (w .length ≡ 0) → answerOf w out ≡ framedAnswer f g q mark out
+  module _ (b : isMark mark ≡ true) where
+    pub width-refused : (w : Written) → columnLimit < g .width → (w .refusal ≡ shapeTooWide) × (w .length ≡ 0) → answerOf w out ≡ framedAnswer f g q mark out
     width-refused w k h = rw (b, lt-ltb columnLimit (g .width) k, h .0, h .1)
 
     -- once the mark and the width are good: the code's lines are the definition's
@@ -95,7 +92,7 @@ module _ (f : Frame) (g : RowShape) (q : Renderer) (mark : ℕ) (out : List ℕ)
       abbrev text : List ℕ
       text = linesText f (entry table) q r mark (cellsOf g)
 
-      pub room-refused : (w : Written) (n : ℕ) → n ≡ length text → length out < n → (w .refusal ≡ 8) × (w .length ≡ 0)
+      pub room-refused : (w : Written) (n : ℕ) → n ≡ length text → length out < n → (w .refusal ≡ outputShorterThanLines) × (w .length ≡ 0)
           → answerOf w out ≡ framedAnswer f g q mark out
       room-refused w n c r h =
           let m : length out < length (framedBytes f q g mark) = rw (← table-text f q g mark table _ d e, ← c) r in
@@ -109,17 +106,17 @@ module _ (f : Frame) (g : RowShape) (q : Renderer) (mark : ℕ) (out : List ℕ)
           rw (b, le-ltb columnLimit (g .width) k, le-ltb (length out) (length (framedBytes f q g mark)) m, c, z, t)
 
 -- ---- with a mark in 21 to 7E, at most 64 cells and room for the bytes, a call accepts
-checks-passed : (g : RowShape) (mark : ℕ) (bs out : List ℕ) → 0x21 ≤ mark → mark ≤ 0x7e → g .width ≤ columnLimit → length bs ≤ length out
+checks-passed : (g : RowShape) (mark : ℕ) (bs out : List ℕ) → isMark mark ≡ true → g .width ≤ columnLimit → length bs ≤ length out
     → refusal (checksFor g mark bs out) ≡ 0
-checks-passed g mark bs out a b k r = rw (le-ltb mark 0x21 a, le-ltb 0x7e mark b, le-ltb columnLimit (g .width) k, le-ltb (length out) (length bs) r)
+checks-passed g mark bs out b k r = rw (b, le-ltb columnLimit (g .width) k, le-ltb (length out) (length bs) r)
 
-pub accepts : (g : RowShape) (q : Renderer) (mark : ℕ) (out : List ℕ) → 0x21 ≤ mark → mark ≤ 0x7e → g .width ≤ columnLimit
+pub accepts : (g : RowShape) (q : Renderer) (mark : ℕ) (out : List ℕ) → isMark mark ≡ true → g .width ≤ columnLimit
     → length (linesBytes q g mark) ≤ length out → (nextPrefixLines g q mark out) .refusal ≡ 0
-accepts g q mark out a b k r = rw (checks-passed g mark (linesBytes q g mark) out a b k r)
+accepts g q mark out b k r = rw (checks-passed g mark (linesBytes q g mark) out b k r)
 
-pub listing-accepts : (g : RowShape) (mark : ℕ) (out : List ℕ) → 0x21 ≤ mark → mark ≤ 0x7e → g .width ≤ columnLimit
+pub listing-accepts : (g : RowShape) (mark : ℕ) (out : List ℕ) → isMark mark ≡ true → g .width ≤ columnLimit
     → length (listingBytes g mark) ≤ length out → (listing g mark out) .refusal ≡ 0
-listing-accepts g mark out a b k r = rw (checks-passed g mark (listingBytes g mark) out a b k r)
+listing-accepts g mark out b k r = rw (checks-passed g mark (listingBytes g mark) out b k r)
 
 -- ---- how much a call can write
 -- nine lines, each of so many bytes a cell and what stands around them

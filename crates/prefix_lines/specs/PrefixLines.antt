@@ -1,13 +1,14 @@
 -- The renderer call (01, "Added by us" and "Where a call turns back"): the bytes of its lines, and the answer.
 use Prim.Native.Nat.{ℕ, zero, suc}
-use mathlib.Core.Bool.{_||_}
+use mathlib.Core.Bool.{not}
 use mathlib.Core.List.{List, [], _∷_, _++_}
 use lib.Dec.{ltb}
 use lib.ListN.{length}
 use Rattle.column.specs.Columns.{columnLimit}
 use Rattle.render.specs.declared.types.DashStyle.{DashStyle}
 use Rattle.render.specs.declared.types.RowShape.{RowShape}
-use Rattle.render.specs.Refusals.{Check, _when_, refusal}
+use Rattle.render.specs.Mark.{isMark}
+use Rattle.render.specs.Refusals.{markOutsideSpan, outputShorterThanLines, shapeTooWide, Check, _when_, refusal}
 use Rattle.glyphs.specs.declared.Renderer.{Renderer}
 use Rattle.glyphs.specs.declared.types.Line.{Line}
 use Rattle.glyphs.specs.declared.types.Line.the-variants.{PreNode, Node, PostNode, Link, SecondLink, Term, SecondTerm, Ancestry, PostAncestry}
@@ -39,9 +40,9 @@ linesBytes q g mark = joins (lineBytes q (g .style .«dash_style») mark) (lines
 -- the renderer's rows of 01's table, in their order, where these bytes are to be written
 abbrev pub checksFor : RowShape → ℕ → List ℕ → List ℕ → List Check
 checksFor g mark bs out =
-    (5 when (ltb mark 0x21 || ltb 0x7e mark))
-    ∷ (12 when ltb columnLimit (g .width))
-    ∷ (8 when ltb (length out) (length bs))
+    (markOutsideSpan when not (isMark mark))
+    ∷ (shapeTooWide when ltb columnLimit (g .width))
+    ∷ (outputShorterThanLines when ltb (length out) (length bs))
     ∷ []
 
 -- the renderer call's rows of 01's table, in their order

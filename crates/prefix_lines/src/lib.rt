@@ -13,7 +13,12 @@ use glyphs::TABLE;
 use glyphs::row_of;
 use glyphs::write_table;
 use length::lines_length;
+use render::ACCEPTED;
+use render::MARK_OUTSIDE_SPAN;
+use render::OUTPUT_SHORTER_THAN_LINES;
 use render::RowShape;
+use render::SHAPE_TOO_WIDE;
+use render::is_mark;
 use writer::Frame;
 use writer::write_lines;
 
@@ -40,11 +45,11 @@ fn write_shape(
 ) -> Written
     ensures { λ r. ⌜ answerOf r (now (out .exit)) ≡ framedAnswer frame shape renderer mark (now (out .entry)) ⌝ }
 {
-    if (mark < 0x21) | (0x7e < mark) {
-        return refused(5);
+    if !is_mark(mark) {
+        return refused(MARK_OUTSIDE_SPAN);
     }
     if COLUMN_LIMIT < shape.width {
-        return refused(12);
+        return refused(SHAPE_TOO_WIDE);
     }
     let cells = shape.cells;
     let width = shape.width;
@@ -52,10 +57,13 @@ fn write_shape(
     let mut table = [0u8; TABLE];
     write_table(&mut table, renderer);
     if out.len() < lines_length(frame, &table, renderer, row, mark, cells, width) {
-        return refused(8);
+        return refused(OUTPUT_SHORTER_THAN_LINES);
     }
     let length = write_lines(out, frame, &table, renderer, row, mark, cells, width);
-    Written { refusal: 0, length }
+    Written {
+        refusal: ACCEPTED,
+        length,
+    }
 }
 
 // Writes each line of a shape as its kind letter, the line with the mark in place, and 0A.

@@ -14,7 +14,7 @@ use Rattle.render.specs.declared.render.Ancestor.the-variants.{Anonymous}
 use Rattle.render.specs.declared.render.Entry.{Entry}
 use Rattle.render.specs.declared.render.Entries.{Entries}
 use Rattle.render.specs.Entries.{entryLimit, listed, tooMany, pushed}
-use Rattle.render.specs.Refusals.{refusal}
+use Rattle.render.specs.Refusals.{recordCutShort, tooManyParents, kindAboveLimit, refusal}
 use Rattle.record.specs.declared.Outcome.{Outcome}
 use Rattle.record.specs.declared.Outcome.the-variants.{Ready, Ended, Refused}
 use Rattle.record.specs.declared.RecordAnswer.{RecordAnswer}
@@ -87,15 +87,17 @@ push-with l a h =
     pairs : {x y : List Entry} {n m : ℕ} → x ≡ y → n ≡ m → _≡_ {A = List Entry × ℕ} (x, n) (y, m)
     pairs p q = cc
 
-pub listed-with : (l : List Ancestor) → listed (entriesWith l) ≡ l
-listed-with l = ap (map (λ (e : Entry). e .ancestor)) (take-at (map entry l) (replicate (entryLimit - length l) (entry Anonymous)) (length l) (length-map l entry)) ∙ back l
+pub listed-with : (l : List Ancestor) → length l ≤ entryLimit → listed (entriesWith l) ≡ l
+listed-with l h =
+    rw (le-ltb entryLimit (length l) h)
+    (ap (map (λ (e : Entry). e .ancestor)) (take-at (map entry l) (replicate (entryLimit - length l) (entry Anonymous)) (length l) (length-map l entry)) ∙ back l)
   where
     back : (l : List Ancestor) → map (λ (e : Entry). e .ancestor) (map entry l) ≡ l
     back [] = refl
     back (a ∷ l) = ap (λ (r : List Ancestor). a ∷ r) (back l)
 
-pub few-with : (l : List Ancestor) → length l ≤ entryLimit → tooMany (entriesWith l) ≡ false
-few-with l h = le-ltb entryLimit (length l) h
+pub few-with : (l : List Ancestor) → length l ≤ entryLimit → tooMany (listed (entriesWith l)) ≡ false
+few-with l h = ap tooMany (listed-with l h) ∙ le-ltb entryLimit (length l) h
 
 -- one entry more of the first ones
 pub entries-next : (s : List ℕ) (i : ℕ) {es r : Entries} {e : Entry} → es ≡ entriesWith (map entryOf (writtenFrom s 0 i)) → e ≡ entry (entryOf (writtenAt s i))
@@ -151,9 +153,9 @@ pub record-done : (s : List ℕ) (parents n i : ℕ) (es : Entries) (m : List �
 record-done s parents n i es m p (k, t) q f g = rw (q, t, f, p, g, k) refl
 
 -- what a struct holds that was made of a record
-view-with : (v : RecordView) → recordViewOf (recordWith v) ≡ v
-view-with v =
-    rw (listed-with (v .entries), take-at (v .message) (replicate (messageRoom - length (v .message)) 0) (length (v .message)) refl) refl
+view-with : (v : RecordView) → length (v .entries) ≤ entryLimit → recordViewOf (recordWith v) ≡ v
+view-with v h =
+    rw (listed-with (v .entries) h, take-at (v .message) (replicate (messageRoom - length (v .message)) 0) (length (v .message)) refl) refl
 
 outcome-number : (n : ℕ) (left : List ℕ) → outcomeNumber (outcomeOf n left) ≡ n
 outcome-number zero [] = refl
@@ -168,7 +170,7 @@ records-with : (left : List ℕ) (o : Outcome) (v : RecordView) (r : RecordAnswe
     → r .«record» ≡ recordWith v → length (v .entries) ≤ entryLimit → length (v .message) ≤ messageRoom → Records left r
 records-with left o v r d p q h k =
     record {
-      reply = rw (p, q, view-with v) (sym d);
+      reply = rw (p, q, view-with v h) (sym d);
       number = rw p (ap (λ (a : RecordReply). outcomeNumber (a .outcome)) (sym d) ∙ next-number left);
       few = rw q (few-with (v .entries) h);
       short = rw q k;
@@ -189,26 +191,26 @@ module _ (left : List ℕ) (r : RecordAnswer) where
       go (b ∷ bs) h = absurd (omega arith)
 
   module _ (some : length left ≡ 0 → ⊥) where
-    pub short-done : length left < recordLength → (r .outcome ≡ Refused 9) × (r .«record» ≡ recordWith noRecord) → Records left r
+    pub short-done : length left < recordLength → (r .outcome ≡ Refused recordCutShort) × (r .«record» ≡ recordWith noRecord) → Records left r
     unfolding nextRecord
-    short-done h = without (Refused 9) (rw (lt-ltb 0 (length left) (omega arith), lt-ltb (length left) recordLength h) refl)
+    short-done h = without (Refused recordCutShort) (rw (lt-ltb 0 (length left) (omega arith), lt-ltb (length left) recordLength h) refl)
 
     module _ (whole : recordLength ≤ length left) (parents : ℕ) (p : parents ≡ parentCount left) where
-      pub many-done : parentLimit < parents → (r .outcome ≡ Refused 10) × (r .«record» ≡ recordWith noRecord) → Records left r
+      pub many-done : parentLimit < parents → (r .outcome ≡ Refused tooManyParents) × (r .«record» ≡ recordWith noRecord) → Records left r
       unfolding nextRecord
       many-done h =
           let m : parentLimit < parentCount left = omega arith in
-          without (Refused 10) (rw (lt-ltb 0 (length left) (omega arith), le-ltb (length left) recordLength whole, lt-ltb parentLimit (parentCount left) m) refl)
+          without (Refused tooManyParents) (rw (lt-ltb 0 (length left) (omega arith), le-ltb (length left) recordLength whole, lt-ltb parentLimit (parentCount left) m) refl)
 
       module _ (few : parents ≤ parentLimit) where
         kinds : {t : Bool} → t ≡ anyAbove kindLimit (writtenFrom left 0 parents) → anyAbove kindLimit (used left) ≡ t
         kinds a = sym (a ∙ ap (λ (n : ℕ). anyAbove kindLimit (writtenFrom left 0 n)) p)
 
-        pub kind-done : true ≡ anyAbove kindLimit (writtenFrom left 0 parents) → (r .outcome ≡ Refused 11) × (r .«record» ≡ recordWith noRecord) → Records left r
+        pub kind-done : true ≡ anyAbove kindLimit (writtenFrom left 0 parents) → (r .outcome ≡ Refused kindAboveLimit) × (r .«record» ≡ recordWith noRecord) → Records left r
         unfolding nextRecord
         kind-done a =
             let m : parentCount left ≤ parentLimit = omega arith in
-            without (Refused 11)
+            without (Refused kindAboveLimit)
             (rw (lt-ltb 0 (length left) (omega arith), le-ltb (length left) recordLength whole, le-ltb parentLimit (parentCount left) m, kinds a) refl)
 
         pub ready-done : false ≡ anyAbove kindLimit (writtenFrom left 0 parents) → r .outcome ≡ Ready → r .«record» ≡ recordWith (recordOf left) → Records left r

@@ -54,6 +54,6 @@ recordWith v =
 pub record Records (left : List ℕ) (r : RecordAnswer) : Type 0 where
   pub reply : recordReplyOf r ≡ nextRecord left
   pub number : outcomeNumber (r .outcome) ≡ refusal (recordChecks left)
-  pub few : tooMany (r .«record» .entries) ≡ false
+  pub few : tooMany (listed (r .«record» .entries)) ≡ false
   pub short : r .«record» .«message_length» ≤ messageRoom
   pub rest : r .«record» ≡ recordWith (nextRecord left .view)

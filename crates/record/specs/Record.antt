@@ -6,7 +6,7 @@ use lib.Dec.{ltb, eqb}
 use lib.ListN.{length, getD, take, drop}
 use Rattle.render.specs.declared.render.Ancestor.{Ancestor as Entry}
 use Rattle.render.specs.declared.render.Ancestor.the-variants.{Ancestor as Indirect, Parent as Direct, Anonymous}
-use Rattle.render.specs.Refusals.{Check, _when_, refusal}
+use Rattle.render.specs.Refusals.{recordCutShort, tooManyParents, kindAboveLimit, Check, _when_, refusal}
 use Rattle.record.specs.declared.Outcome.{Outcome}
 use Rattle.record.specs.declared.Outcome.the-variants.{Ready, Ended, Refused}
 
@@ -100,9 +100,9 @@ noRecord = record { id = 0; mark = 0; entries = []; message = [] }
 -- the record call's rows of 01's table, in their order
 abbrev pub recordChecks : List ℕ → List Check
 recordChecks left =
-    (9 when (ltb 0 (length left) && ltb (length left) recordLength))
-    ∷ (10 when ltb parentLimit (parentCount left))
-    ∷ (11 when anyAbove kindLimit (used left))
+    (recordCutShort when (ltb 0 (length left) && ltb (length left) recordLength))
+    ∷ (tooManyParents when ltb parentLimit (parentCount left))
+    ∷ (kindAboveLimit when anyAbove kindLimit (used left))
     ∷ []
 
 -- how the call goes: "With no bytes left the record call says that the records have ended."

@@ -8,6 +8,9 @@ ghost use Rattle.record.specs.Promises.{entry, entriesWith, padded, reco
 use render::Ancestor;
 use render::Entries;
 use render::Entry;
+use render::KIND_ABOVE_LIMIT;
+use render::RECORD_CUT_SHORT;
+use render::TOO_MANY_PARENTS;
 
 // The bytes of a record.
 pub const RECORD: usize = 128;
@@ -195,14 +198,14 @@ pub fn next_record(left: &[u8]) -> RecordAnswer
         return no_record(Outcome::Ended);
     }
     if left.len() < RECORD {
-        return no_record(Outcome::Refused(9));
+        return no_record(Outcome::Refused(RECORD_CUT_SHORT));
     }
     let parents = wide(left[COUNT_AT]) as usize;
     if PARENT_LIMIT < parents {
-        return no_record(Outcome::Refused(10));
+        return no_record(Outcome::Refused(TOO_MANY_PARENTS));
     }
     if has_other_kind(left, parents) {
-        return no_record(Outcome::Refused(11));
+        return no_record(Outcome::Refused(KIND_ABOVE_LIMIT));
     }
     let outcome = Outcome::Ready;
     let record = record_of(left, parents);

@@ -1,4 +1,5 @@
 pub mod Refusals
+pub mod Mark
 pub mod Entries
 pub mod Link
 pub mod Lines

@@ -1,7 +1,35 @@
 // What row shapes are made of, after render.rs and types.rs.
+mod mark;
+mod refusals;
 mod render;
 mod types;
 
+pub use mark::is_mark;
+pub use refusals::ACCEPTED;
+pub use refusals::BYTE_NOT_A_GLYPH;
+pub use refusals::BYTE_NOT_READABLE;
+pub use refusals::GLYPH_BYTE_NOT_PRINTABLE;
+pub use refusals::HEIGHT_ABOVE_LIMIT;
+pub use refusals::ID_NOT_BELOW_PREVIOUS;
+pub use refusals::KIND_ABOVE_LIMIT;
+pub use refusals::MARK_OUTSIDE_SPAN;
+pub use refusals::MESSAGE_BYTE_NOT_WRITABLE;
+pub use refusals::MESSAGE_TOO_LONG;
+pub use refusals::NO_COLUMN_LEFT;
+pub use refusals::NO_SUCH_RECORD;
+pub use refusals::NODE_LINE_TOO_WIDE;
+pub use refusals::OUTPUT_SHORTER_THAN_LINES;
+pub use refusals::OUTPUT_SHORTER_THAN_RESULT;
+pub use refusals::PARENT_NOT_BELOW_ID;
+pub use refusals::RECORD_CUT_SHORT;
+pub use refusals::SHAPE_TOO_WIDE;
+pub use refusals::TOO_FEW_CELLS_LEFT;
+pub use refusals::TOO_MANY_ENTRIES;
+pub use refusals::TOO_MANY_PARENTS;
+pub use refusals::TOO_MANY_REACHED;
+pub use refusals::TOO_MANY_RECORDS;
+pub use refusals::UNEQUAL_RECORDS;
+pub use refusals::WIDTH_OUTSIDE_SPAN;
 pub use render::Ancestor;
 pub use render::ENTRY_LIMIT;
 pub use render::Entries;

@@ -14,7 +14,7 @@ use Rattle.render.specs.Lines.{blankCell}
 use Rattle.links.specs.declared.Drawn.{Drawn}
 use Rattle.links.specs.declared.AncestorColumnBounds.{AncestorColumnBounds}
 use Rattle.links.specs.declared.Swap.{Swap}
-use Rattle.render.specs.Refusals.{Check, _when_, refusal}
+use Rattle.render.specs.Refusals.{tooManyEntries, nodeLineTooWide, Check, _when_, refusal}
 use Rattle.shaper.specs.Shaper.{View, viewAfter, isNothing, refusedOptions}
 use Rattle.shaper.specs.NodeColumn.{head}
 use Rattle.cells.specs.Cells.{cellOf, cellsFrom}
@@ -74,7 +74,7 @@ pub record RowReply : Type 0 where
 
 -- the table's rows for row: 3 "more than 32 entries", 4 "node line would have more than 64 cells"
 abbrev pub rowChecks : List Entry → Placed → List Check
-rowChecks es p = (3 when tooMany es) ∷ (4 when ltb columnLimit (length (p .walked))) ∷ []
+rowChecks es p = (tooManyEntries when tooMany es) ∷ (nodeLineTooWide when ltb columnLimit (length (p .walked))) ∷ []
 
 -- the shaper after a row: "`reset` ends every row."
 abbrev pub rowAfter : View → Placed → View

@@ -10,14 +10,14 @@ use column::Slot;
 use links::AncestorColumnBounds;
 use links::ParentColumn;
 use links::Swap;
+use render::ACCEPTED;
 use render::Cell;
 use render::Entries;
+use render::NODE_LINE_TOO_WIDE;
 use render::Options;
 use render::RowShape;
-use shaper::ACCEPTED;
-use shaper::NODE_LINE_TOO_WIDE;
+use render::TOO_MANY_ENTRIES;
 use shaper::Shaper;
-use shaper::TOO_MANY_ENTRIES;
 use shaper::find_column;
 
 // What the row call gives: the refusal's number, the shape, and the shaper after it.

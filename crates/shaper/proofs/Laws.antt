@@ -15,6 +15,7 @@ use Rattle.column.proofs.Front.{length-front}
 use Rattle.column.proofs.Laws.{first-below, live-put}
 use Rattle.render.specs.declared.render.Entries.{Entries}
 use Rattle.render.specs.Entries.{entryLimit, listed, tooMany}
+use Rattle.render.specs.Refusals.{notRefused, heightAboveLimit, noColumnLeft}
 use Rattle.shaper.specs.declared.Shaper.{Shaper}
 use Rattle.shaper.specs.Shaper.{heightLimit, viewOf, View, fresh, refusedOptions, Fresh, withColumns, reserve, reservedSlot, Reserves}
 use Rattle.column.specs.declared.Found.{Found}
@@ -38,7 +39,7 @@ few = few-count
 
 -- ---- the new shaper call
 module _ (o : Options) where
-  pub new-refused : (s : Shaper) → heightLimit < o .«min_row_height» → s ≡ fresh refusedOptions → Fresh o (record { refusal = 1; shaper = s })
+  pub new-refused : (s : Shaper) → heightLimit < o .«min_row_height» → s ≡ fresh refusedOptions → Fresh o (record { refusal = heightAboveLimit; shaper = s })
   new-refused s h e =
       record {
         reply = rw (e, lt-ltb heightLimit (o .«min_row_height») h);
@@ -46,7 +47,7 @@ module _ (o : Options) where
         options = λ z. absurd (omega arith);
       }
 
-  pub new-done : (s : Shaper) → o .«min_row_height» ≤ heightLimit → s ≡ fresh o → Fresh o (record { refusal = 0; shaper = s })
+  pub new-done : (s : Shaper) → o .«min_row_height» ≤ heightLimit → s ≡ fresh o → Fresh o (record { refusal = notRefused; shaper = s })
   new-done s h e = record { reply = rw (e, le-ltb heightLimit (o .«min_row_height») h); whole = rw e; options = λ z. rw e }
 
 -- ---- the reserving call
@@ -59,12 +60,12 @@ module _ (v : View) (n : ℕ) where
   reserve-held i e = rw e
 
   module _ (e : find n cs ≡ Nothing) where
-    full : (f : Found) → first isEmpty cs ≡ f → length cs ≤ columnLimit → columnLimit ≤ orElse f (length cs) → reserve v n ≡ record { refusal = 2; view = v }
+    full : (f : Found) → first isEmpty cs ≡ f → length cs ≤ columnLimit → columnLimit ≤ orElse f (length cs) → reserve v n ≡ record { refusal = noColumnLeft; view = v }
     unfolding reserve
     full (At i) q h g = absurd (omega (arith, first-below isEmpty cs i q))
     full Nothing q h g = rw (e, q, le-leb columnLimit (length cs) g)
 
-    pub reserve-full : length cs ≤ columnLimit → columnLimit ≤ vacant cs → reserve v n ≡ record { refusal = 2; view = v }
+    pub reserve-full : length cs ≤ columnLimit → columnLimit ≤ vacant cs → reserve v n ≡ record { refusal = noColumnLeft; view = v }
     reserve-full = full (first isEmpty cs) refl
 
     room : (f : Found) → first isEmpty cs ≡ f → orElse f (length cs) < columnLimit
@@ -99,7 +100,7 @@ module _ (s : Shaper) (n : ℕ) where
       }
 
   module _ (e : find n live-columns ≡ Nothing) (long : length (s .slots) ≡ columnLimit) where
-    pub full-done : columnLimit ≤ vacant live-columns → Reserves s n (record { refusal = 2; shaper = s })
+    pub full-done : columnLimit ≤ vacant live-columns → Reserves s n (record { refusal = noColumnLeft; shaper = s })
     full-done h =
         record {
           reply = sym (reserve-full (viewOf s) n e (rw length-front (omega arith)) h);

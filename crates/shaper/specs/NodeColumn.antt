@@ -10,7 +10,7 @@ use Rattle.column.specs.declared.Column.the-variants.{Blocked}
 use Rattle.column.specs.declared.Found.{Found}
 use Rattle.column.specs.declared.Found.the-variants.{At, Nothing}
 use Rattle.column.specs.Columns.{columnLimit, isEmpty, isReserved, first, find, orElse, vacant, at}
-use Rattle.render.specs.Refusals.{_when_, refusal}
+use Rattle.render.specs.Refusals.{notRefused, nodeLineTooWide, _when_, refusal}
 use Rattle.shaper.specs.Shaper.{View}
 
 -- "Staggering counts only with `min_row_height` at most 1"
@@ -47,10 +47,10 @@ fitting c = cond (ltb c columnLimit) (At c) Nothing
 
 -- the number of the answer: Nothing is 4, "node line would have more than 64 cells" (01, the table's row for row, text)
 abbrev pub lookupRefusal : Found → ℕ
-lookupRefusal (At i) = 0
-lookupRefusal Nothing = 4
+lookupRefusal (At i) = notRefused
+lookupRefusal Nothing = nodeLineTooWide
 
 -- what the lookup of the node's column gives
 pub record Finds (c : ℕ) (r : Found) : Type 0 where
   pub column : r ≡ fitting c
-  pub number : lookupRefusal r ≡ refusal ((4 when leb columnLimit c) ∷ [])
+  pub number : lookupRefusal r ≡ refusal ((nodeLineTooWide when leb columnLimit c) ∷ [])

@@ -17,7 +17,7 @@ use Rattle.render.specs.declared.types.Style.{Style}
 use Rattle.render.specs.declared.types.Options.{Options}
 use Rattle.shaper.specs.declared.Shaper.{Shaper}
 use Rattle.shaper.specs.declared.Answer.{Answer}
-use Rattle.render.specs.Refusals.{Check, _when_, refusal}
+use Rattle.render.specs.Refusals.{heightAboveLimit, noColumnLeft, Check, _when_, refusal}
 
 -- "minimum row height above 16" (01, the table's row for new shaper)
 abbrev pub heightLimit : ℕ
@@ -64,7 +64,7 @@ answer (suc n) old new = record { refusal = suc n; view = old }
 
 -- "minimum row height above 16" (01, the table's row for new shaper)
 abbrev pub newChecks : Options → List Check
-newChecks o = (1 when ltb heightLimit (o .«min_row_height»)) ∷ []
+newChecks o = (heightAboveLimit when ltb heightLimit (o .«min_row_height»)) ∷ []
 
 -- a shaper without columns: "fresh shaper" where the new shaper call has just given it (01, "Which ids wait")
 abbrev pub fresh : Options → Shaper
@@ -92,7 +92,7 @@ isNothing Nothing = true
 
 -- "id not held, no Empty column, 64 columns" (01, the table's row for reserving)
 abbrev pub reserveChecks : ℕ → List Column → List Check
-reserveChecks n cs = (2 when (isNothing (find n cs) && (isNothing (first isEmpty cs) && leb columnLimit (length cs)))) ∷ []
+reserveChecks n cs = (noColumnLeft when (isNothing (find n cs) && (isNothing (first isEmpty cs) && leb columnLimit (length cs)))) ∷ []
 
 -- "an id already held changes nothing, else it becomes Reserved in the first Empty column or a new last one" (01, point 3)
 abbrev pub reservedIn : Found → ℕ → List Column → List Column

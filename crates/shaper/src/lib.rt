@@ -7,24 +7,16 @@ use column::COLUMN_LIMIT;
 use column::Column;
 use column::Found;
 use column::Slot;
+use render::ACCEPTED;
 use render::DashStyle;
+use render::HEIGHT_ABOVE_LIMIT;
 use render::LinkLinePlacement;
+use render::NO_COLUMN_LEFT;
 use render::Options;
 use render::Style;
 
 // The greatest minimum row height that a new shaper takes.
 pub const HEIGHT_LIMIT: usize = 16;
-
-// Refusal numbers; 0 is none.
-pub const ACCEPTED: u8 = 0;
-
-pub const HEIGHT_ABOVE_LIMIT: u8 = 1;
-
-pub const NO_COLUMN_LEFT: u8 = 2;
-
-pub const TOO_MANY_ENTRIES: u8 = 3;
-
-pub const NODE_LINE_TOO_WIDE: u8 = 4;
 
 // The state of the first pipeline stage (`GraphRowShaper` in graph_to_row_shape.rs).
 pub struct Shaper {

@@ -1,7 +1,7 @@
 -- The programs' outputs are long enough: a record is never refused for want of room (8).
 use mathlib.Core.Path.{_≡_, refl, sym, ap, _∙_}
 use mathlib.Core.Logic.{_≢_}
-use mathlib.Core.Bool.{Bool, true, false, cond, not, _||_}
+use mathlib.Core.Bool.{Bool, true, false, cond, not}
 use mathlib.Core.List.{List, _∷_, _++_, map}
 use Prim.Native.Nat.{ℕ, zero, suc, _+_, _*_, _-_, _≤_, max}
 use native.Mathlib.Omega.{arith}
@@ -10,7 +10,9 @@ use lib.Dec.{ltb, eqb}
 use lib.ListN.{length, replicate, length-append}
 use Rattle.column.specs.Columns.{columnLimit}
 use Rattle.render.specs.declared.render.Ancestor.{Ancestor as Entry}
-use Rattle.render.specs.Refusals.{refusal}
+use Rattle.render.specs.Entries.{tooMany}
+use Rattle.render.specs.Mark.{isMark}
+use Rattle.render.specs.Refusals.{notRefused, markOutsideSpan, messageTooLong, messageByteNotWritable, outputShorterThanLines, refusal}
 use Rattle.shaper.specs.Shaper.{View, heightLimit}
 use Rattle.placing.specs.Placing.{Placed, place}
 use Rattle.row_shape.specs.Row.{RowReply, rowAnswer, rowChecks, row}
@@ -81,45 +83,45 @@ module _ (q : Renderer) (g : RowShape) (mark : ℕ) (m : List ℕ) (height : ℕ
       (omega (arith, rows-short, begin-short (g .«separator_line») t long))
 
 -- ---- the row call never gives 8
-row-number : (v : View) (n : ℕ) (es : List Entry) (p : Placed) (many wide : Bool) → ltb columnLimit (length (p .walked)) ≡ wide
-    → rowAnswer (refusal (rowChecks many p)) v n es p .refusal ≤ 4
-row-number v n es p true wide e = omega arith
-row-number v n es p false true e = rw e (omega arith)
-row-number v n es p false false e = rw e (omega arith)
+row-number : (v : View) (n : ℕ) (es : List Entry) (p : Placed) (many wide : Bool) → tooMany es ≡ many → ltb columnLimit (length (p .walked)) ≡ wide
+    → rowAnswer (refusal (rowChecks es p)) v n es p .refusal ≤ 4
+row-number v n es p true wide m e = rw m (omega arith)
+row-number v n es p false true m e = rw (m, e) (omega arith)
+row-number v n es p false false m e = rw (m, e) (omega arith)
 
-row-small : (v : View) (n : ℕ) (many : Bool) (es : List Entry) → row v n many es .refusal ≤ 4
+row-small : (v : View) (n : ℕ) (es : List Entry) → row v n es .refusal ≤ 4
 unfolding row
-row-small v n many es = row-number v n es (place v n es) many (ltb columnLimit (length (place v n es .walked))) refl
+row-small v n es = row-number v n es (place v n es) (tooMany es) (ltb columnLimit (length (place v n es .walked))) refl refl
 
 -- ---- the page: a message of at most 82 bytes, and an output of 131072
-not-eight : (a b c z d : Bool) (r : ℕ) → r ≤ 4 → eqb r 0 ≡ z → (z ≡ true → d ≡ false) → cond a 5 (cond b 6 (cond c 7 (cond (not z) r (cond d 8 0)))) ≢ 8
+not-eight : (a b c z d : Bool) (r : ℕ) → r ≤ 4 → eqb r 0 ≡ z → (z ≡ true → d ≡ false) → cond a markOutsideSpan (cond b messageTooLong (cond c messageByteNotWritable (cond (not z) r (cond d outputShorterThanLines notRefused)))) ≢ outputShorterThanLines
 not-eight true b c z d r s e h k = omega (arith, k)
 not-eight false true c z d r s e h k = omega (arith, k)
 not-eight false false true z d r s e h k = omega (arith, k)
 not-eight false false false false d r s e h k = omega (arith, k, s)
-not-eight false false false true d r s e h k = let f : _≡_ {A = ℕ} (cond d 8 0) 0 = ap (λ (x : Bool). cond x 8 0) (h refl) in omega (arith, k, f)
+not-eight false false false true d r s e h k = let f : _≡_ {A = ℕ} (cond d outputShorterThanLines notRefused) notRefused = ap (λ (x : Bool). cond x outputShorterThanLines notRefused) (h refl) in omega (arith, k, f)
 
 number-told : (k : ℕ) (ls : List (List ℕ)) (out : List ℕ) (v w : View) (t u : TextView) → textAnswer k ls out v w t u .refusal ≡ k
 number-told zero ls out v w t u = refl
 number-told (suc k) ls out v w t u = refl
 
-module _ (v : View) (t : TextState) (long : length (t .«queued_pad_line») ≡ queueLimit) (q : Renderer) (n : ℕ) (many : Bool) (es : List Entry) (mark : ℕ) (m out : List ℕ) where
+module _ (v : View) (t : TextState) (long : length (t .«queued_pad_line») ≡ queueLimit) (q : Renderer) (n : ℕ) (es : List Entry) (mark : ℕ) (m out : List ℕ) where
   abbrev placed : RowReply
-  placed = row v n many es
+  placed = row v n es
 
   abbrev lines : List (List ℕ)
   lines = textLines (textViewOf t) q (placed .shape) mark (linesOf m) (v .height)
 
   has-room : v .height ≤ heightLimit → length m ≤ 82 → 131072 ≤ length out → eqb (placed .refusal) 0 ≡ true → ltb (length out) (length (textOf lines)) ≡ false
   has-room h k o e =
-      let w : placed .shape .width ≤ columnLimit = row-fits v n many es (eqb-true (placed .refusal) 0 e) in
+      let w : placed .shape .width ≤ columnLimit = row-fits v n es (eqb-true (placed .refusal) 0 e) in
       le-ltb (length out) (length (textOf lines)) (omega (arith, text-short q (placed .shape) mark m (v .height) w (omega arith) t long))
 
-  pub page-has-room : v .height ≤ heightLimit → length m ≤ 82 → 131072 ≤ length out → text v (textViewOf t) q n many es mark m out .refusal ≢ 8
+  pub page-has-room : v .height ≤ heightLimit → length m ≤ 82 → 131072 ≤ length out → text v (textViewOf t) q n es mark m out .refusal ≢ outputShorterThanLines
   unfolding text
   page-has-room h k o e =
-      not-eight (ltb mark 0x21 || ltb 0x7e mark) (ltb messageLimit (length m)) (not (allOf isWritable m)) (eqb (placed .refusal) 0) (ltb (length out) (length (textOf lines)))
-      (placed .refusal) (row-small v n many es) refl (has-room h k o)
+      not-eight (not (isMark mark)) (ltb messageLimit (length m)) (not (allOf isWritable m)) (eqb (placed .refusal) 0) (ltb (length out) (length (textOf lines)))
+      (placed .refusal) (row-small v n es) refl (has-room h k o)
       (sym (number-told (refusal (textChecks mark m placed (textOf lines) out)) lines out v (placed .view) (textViewOf t) (textAfter q (placed .shape) mark (linesOf m) (v .height))) ∙ e)
 
 -- ---- the listing: an output of 4096

@@ -1,6 +1,6 @@
 -- Laws of a step: what a record's row, drawn or refused, gives.
 use mathlib.Core.Path.{_≡_, refl, sym, ap, ap₂, _∙_}
-use mathlib.Core.Bool.{Bool, true, false, cond, _||_, true≢false}
+use mathlib.Core.Bool.{Bool, true, false, cond, true≢false}
 use mathlib.Core.List.{List, [], _∷_, map}
 use Prim.Native.Nat.{ℕ, zero, suc, _-_, _≤_}
 use mathlib.Core.Logic.{⊎-elim}
@@ -12,9 +12,12 @@ use lib.Dec.{ltb}
 use lib.ListN.{length, take, drop, length-append, length-map}
 use lib.Seq.{take-append-seam}
 use Rattle.render.specs.declared.render.Ancestor.{Ancestor as Entry}
-use Rattle.render.specs.Entries.{listed, tooMany}
-use Rattle.render.specs.Refusals.{refusal}
-use Rattle.shaper.specs.Shaper.{View, viewOf}
+use Rattle.render.specs.Entries.{listed}
+use Rattle.render.specs.Mark.{isMark}
+use Rattle.render.specs.Refusals.{notRefused, markOutsideSpan, outputShorterThanLines, refusal}
+use Rattle.shaper.specs.declared.Answer.{Answer}
+use Rattle.shaper.specs.declared.Shaper.{Shaper}
+use Rattle.shaper.specs.Shaper.{View, Reply, viewOf, fresh, Fresh}
 use Rattle.row_shape.specs.declared.RowAnswer.{RowAnswer}
 use Rattle.row_shape.specs.Row.{RowReply, row}
 use Rattle.row_shape.specs.Promises.{Rows}
@@ -24,7 +27,7 @@ use Rattle.glyphs.specs.declared.Renderer.{Renderer}
 use Rattle.glyphs.specs.declared.Renderer.the-variants.{Curved}
 use Rattle.glyphs.specs.Joins.{over}
 use Rattle.prefix_lines.specs.declared.Written.{Written}
-use Rattle.prefix_lines.specs.PrefixLines.{Answer, answerOf, answered}
+use Rattle.prefix_lines.specs.PrefixLines.{Answer as LinesAnswer, answerOf, answered}
 use Rattle.prefix_lines.specs.Listing.{listingBytes, listing}
 use Rattle.output.specs.Output.{TextView, textViewOf, textOf}
 use Rattle.text.specs.declared.graph_text_renderer.TextAnswer.{TextAnswer}
@@ -40,16 +43,25 @@ use Rattle.record.proofs.Outcome.{the-type}
 use Rattle.record.specs.Promises.{recordViewOf, Records}
 use Rattle.steps.specs.declared.Progress.{Progress}
 use Rattle.steps.specs.declared.Step.{Step}
-use Rattle.steps.specs.Steps.{refusedIn, ProgressView, StepReply, stopped, stepped, next, pageRow, listingRow, onRecord}
-use Rattle.steps.specs.Promises.{progressViewOf, undrawn, Steps}
+use Rattle.steps.specs.Steps.{refusedIn, ProgressView, programOptions, StepReply, stopped, stepped, next, pageRow, listingRow, onRecord}
+use Rattle.steps.specs.Promises.{progressViewOf, freshText, Begins, undrawn, Steps}
+
+-- ---- what a program begins with
+pub begins : (a : Answer) → Fresh programOptions a → Begins (record { shaper = a .shaper; state = freshText; number = 0 })
+begins a f =
+    let z : a .refusal ≡ 0 = ap (λ (r : Reply). r .refusal) (f .reply) in
+    record {
+      reply = ap (λ (r : Reply). record { view = r .view; text = record { queued = []; height = 0 }; number = 0 }) (f .reply);
+      whole = ap (λ (s : Shaper). record { shaper = s; state = freshText; number = 0 }) (f .whole ∙ ap fresh (f .options z));
+    }
 
 -- ---- what a text call's definition says of a refusal and of what was written
-module _ (v : View) (t : TextView) (q : Renderer) (n : ℕ) (many : Bool) (es : List Entry) (mark : ℕ) (message out : List ℕ) where
+module _ (v : View) (t : TextView) (q : Renderer) (n : ℕ) (es : List Entry) (mark : ℕ) (message out : List ℕ) where
   abbrev called : TextReply
-  called = text v t q n many es mark message out
+  called = text v t q n es mark message out
 
   abbrev rowed : RowReply
-  rowed = row v n many es
+  rowed = row v n es
 
   abbrev lines : List (List ℕ)
   lines = textLines t q (rowed .shape) mark (linesOf message) (v .height)
@@ -83,13 +95,13 @@ module _ (v : View) (t : TextView) (q : Renderer) (n : ℕ) (many : Bool) (es : 
   accepted-output z = answer-written number lines (rowed .view) end z
 
 -- ---- the page's row
-module _ (p : Progress) (d : Record) (out : List ℕ) (few : tooMany (d .entries) ≡ false) (m : List ℕ) (same : m ≡ take (d .«message_length») (d .message))
+module _ (p : Progress) (d : Record) (out : List ℕ) (m : List ℕ) (same : m ≡ take (d .«message_length») (d .message))
     (g : TextAnswer) (after : List ℕ) (u : Texts (p .shaper) (p .state) Curved (d .id) (d .entries) (d .mark) m out after g) where
   abbrev page : TextReply
-  page = text (viewOf (p .shaper)) (textViewOf (p .state)) Curved (d .id) false (listed (d .entries)) (d .mark) (take (d .«message_length») (d .message)) out
+  page = text (viewOf (p .shaper)) (textViewOf (p .state)) Curved (d .id) (listed (d .entries)) (d .mark) (take (d .«message_length») (d .message)) out
 
   replied : textReplyOf g after ≡ page
-  replied = u .reply ∙ rw (few, same) refl
+  replied = u .reply ∙ rw same refl
 
   refusal-is : page .refusal ≡ g .refusal
   refusal-is = sym (ap (λ (r : TextReply). r .refusal) replied)
@@ -97,7 +109,7 @@ module _ (p : Progress) (d : Record) (out : List ℕ) (few : tooMany (d .entries
   pub page-out : (g .refusal ≡ 0 → ⊥) → after ≡ out
   page-out z =
       ap (λ (r : TextReply). r .output) replied
-      ∙ refused-output (viewOf (p .shaper)) (textViewOf (p .state)) Curved (d .id) false (listed (d .entries)) (d .mark) (take (d .«message_length») (d .message)) out (λ e. z (sym refusal-is ∙ e))
+      ∙ refused-output (viewOf (p .shaper)) (textViewOf (p .state)) Curved (d .id) (listed (d .entries)) (d .mark) (take (d .«message_length») (d .message)) out (λ e. z (sym refusal-is ∙ e))
 
   stops : (k : ℕ) → g .refusal ≡ k → (k ≡ 0 → ⊥) → pageRow (progressViewOf p) (recordViewOf d) out ≡ stopped (progressViewOf p) (refusedIn out k (p .number))
   stops zero e z = absurd (z refl)
@@ -112,7 +124,7 @@ module _ (p : Progress) (d : Record) (out : List ℕ) (few : tooMany (d .entries
       → Steps (pageRow (progressViewOf p) (recordViewOf d) out) p out after
       (record { length = g .length; «goes_on» = true; progress = record { shaper = g .shaper; state = g .state; number = k } })
   page-goes k e z =
-      let w = accepted-output (viewOf (p .shaper)) (textViewOf (p .state)) Curved (d .id) false (listed (d .entries)) (d .mark) (take (d .«message_length») (d .message)) out (refusal-is ∙ z) in
+      let w = accepted-output (viewOf (p .shaper)) (textViewOf (p .state)) Curved (d .id) (listed (d .entries)) (d .mark) (take (d .«message_length») (d .message)) out (refusal-is ∙ z) in
       let n : g .length ≡ page .length = ap (λ (r : TextReply). r .length) replied in
       let o : after ≡ page .output = ap (λ (r : TextReply). r .output) replied in
       rw goes (record {
@@ -129,19 +141,16 @@ module _ (p : Progress) (d : Record) (out : List ℕ) (few : tooMany (d .entries
 
 -- ---- the listing's row
 module _ (p : Progress) (d : Record) (out : List ℕ) where
-  abbrev badMark : Bool
-  badMark = ltb (d .mark) 0x21 || ltb 0x7e (d .mark)
-
-  pub mark-stops : badMark ≡ true → (last : List ℕ) (r : Step) → Steps (stopped (progressViewOf p) (refusedIn out 5 (p .number))) p out last r
+  pub mark-stops : isMark (d .mark) ≡ false → (last : List ℕ) (r : Step) → Steps (stopped (progressViewOf p) (refusedIn out markOutsideSpan (p .number))) p out last r
       → Steps (listingRow (progressViewOf p) (recordViewOf d) out) p out last r
   mark-stops b last r h = rw b h
 
-  module _ (b : badMark ≡ false) (few : tooMany (d .entries) ≡ false) (g : RowAnswer) (u : Rows (p .shaper) (d .id) (d .entries) g) where
+  module _ (b : isMark (d .mark) ≡ true) (g : RowAnswer) (u : Rows (p .shaper) (d .id) (d .entries) g) where
     abbrev placed : RowReply
-    placed = row (viewOf (p .shaper)) (d .id) false (listed (d .entries))
+    placed = row (viewOf (p .shaper)) (d .id) (listed (d .entries))
 
     rowed-is : record { refusal = g .refusal; shape = g .shape; view = viewOf (g .shaper) } ≡ placed
-    rowed-is = u .reply ∙ rw few refl
+    rowed-is = u .reply
 
     row-refusal : placed .refusal ≡ g .refusal
     row-refusal = sym (ap (λ (r : RowReply). r .refusal) rowed-is)
@@ -164,13 +173,13 @@ module _ (p : Progress) (d : Record) (out : List ℕ) where
       bytes = listingBytes (g .shape) (d .mark)
 
       fits : g .shape .width ≤ columnLimit
-      fits = rw shape-is (row-fits (viewOf (p .shaper)) (d .id) false (listed (d .entries)) (row-refusal ∙ z))
+      fits = rw shape-is (row-fits (viewOf (p .shaper)) (d .id) (listed (d .entries)) (row-refusal ∙ z))
 
       -- the listing call refuses for want of room alone
-      listing-refusal : w .refusal ≡ cond (ltb (length out) (length bytes)) 8 0
-      listing-refusal = ap (λ (a : Answer). a .refusal) y ∙ rw (b, le-ltb columnLimit (g .shape .width) fits) (number (ltb (length out) (length bytes)))
+      listing-refusal : w .refusal ≡ cond (ltb (length out) (length bytes)) outputShorterThanLines notRefused
+      listing-refusal = ap (λ (a : LinesAnswer). a .refusal) y ∙ rw (b, le-ltb columnLimit (g .shape .width) fits) (number (ltb (length out) (length bytes)))
         where
-          number : (c : Bool) → answered (cond c 8 0) bytes out .refusal ≡ cond c 8 0
+          number : (c : Bool) → answered (cond c outputShorterThanLines notRefused) bytes out .refusal ≡ cond c outputShorterThanLines notRefused
           number true = refl
           number false = refl
 
@@ -178,10 +187,10 @@ module _ (p : Progress) (d : Record) (out : List ℕ) where
           ≡ stepped (w .refusal) (progressViewOf p) out bytes (viewOf (g .shaper)) (textViewOf (p .state))
       step-is =
           rw (b, row-refusal, z)
-          (ap (λ (r : RowReply). stepped (cond (ltb (length out) (length (listingBytes (r .shape) (d .mark)))) 8 0) (progressViewOf p) out (listingBytes (r .shape) (d .mark)) (r .view) (textViewOf (p .state))) (sym rowed-is))
+          (ap (λ (r : RowReply). stepped (cond (ltb (length out) (length (listingBytes (r .shape) (d .mark)))) outputShorterThanLines notRefused) (progressViewOf p) out (listingBytes (r .shape) (d .mark)) (r .view) (textViewOf (p .state))) (sym rowed-is))
           ∙ ap (λ (k : ℕ). stepped k (progressViewOf p) out bytes (viewOf (g .shaper)) (textViewOf (p .state))) (sym listing-refusal)
 
-      kept : (c : Bool) → (_≡_ {A = ℕ} (cond c 8 0) 0 → ⊥) → answered (cond c 8 0) bytes out .output ≡ out
+      kept : (c : Bool) → (_≡_ {A = ℕ} (cond c outputShorterThanLines notRefused) 0 → ⊥) → answered (cond c outputShorterThanLines notRefused) bytes out .output ≡ out
       kept true f = refl
       kept false f = absurd (f refl)
 
@@ -191,7 +200,7 @@ module _ (p : Progress) (d : Record) (out : List ℕ) where
         where
           same : after ≡ out
           same =
-              ap (λ (a : Answer). a .output) y
+              ap (λ (a : LinesAnswer). a .output) y
               ∙ rw (b, le-ltb columnLimit (g .shape .width) fits) (kept (ltb (length out) (length bytes)) (λ e. f (listing-refusal ∙ e)))
 
           go : (k : ℕ) → w .refusal ≡ k → (k ≡ 0 → ⊥) → Steps (stopped (progressViewOf p) (refusedIn out k (p .number))) p out last r
@@ -206,14 +215,14 @@ module _ (p : Progress) (d : Record) (out : List ℕ) where
           let c : ltb (length out) (length bytes) ≡ false = room (ltb (length out) (length bytes)) (sym listing-refusal ∙ f) in
           let a : answerOf w after ≡ record { refusal = 0; length = length bytes; output = over bytes out } = y ∙ rw (b, le-ltb columnLimit (g .shape .width) fits, c) refl in
           rw (step-is, f) (record {
-            count = ap (λ (r : Answer). r .length) a;
-            output = ap (λ (r : Answer). r .output) a;
+            count = ap (λ (r : LinesAnswer). r .length) a;
+            output = ap (λ (r : LinesAnswer). r .output) a;
             goes = refl;
             keeps = ap (λ (n : ℕ). record { view = viewOf (g .shaper); text = textViewOf (p .state); number = n }) e;
             same = λ x. absurd (true≢false x);
           })
         where
-          room : (c : Bool) → _≡_ {A = ℕ} (cond c 8 0) 0 → c ≡ false
+          room : (c : Bool) → _≡_ {A = ℕ} (cond c outputShorterThanLines notRefused) 0 → c ≡ false
           room true h = absurd (omega (arith, h))
           room false h = refl
 

@@ -1,13 +1,14 @@
 -- One step of document 01's two programs (01, "Added by us"): from a record's bytes to the bytes that are written, and what is kept for the next one.
 use Prim.Native.Nat.{ℕ, zero, suc, _+_, _/_, _%_, min}
-use mathlib.Core.Bool.{Bool, true, false, cond, not, _||_}
+use mathlib.Core.Bool.{Bool, true, false, cond, not}
 use mathlib.Core.List.{List, [], _∷_, _++_}
 use lib.Dec.{ltb, eqb}
 use lib.ListN.{length, take}
 use Rattle.render.specs.declared.types.DashStyle.the-variants.{Persistent}
 use Rattle.render.specs.declared.types.LinkLinePlacement.the-variants.{Top}
 use Rattle.render.specs.declared.types.Options.{Options}
-use Rattle.render.specs.Refusals.{Check, _when_, refusal}
+use Rattle.render.specs.Mark.{isMark}
+use Rattle.render.specs.Refusals.{notRefused, markOutsideSpan, outputShorterThanLines, Check, _when_, refusal}
 use Rattle.shaper.specs.Shaper.{View, newShaper}
 use Rattle.row_shape.specs.Row.{RowReply, row}
 use Rattle.glyphs.specs.declared.Renderer.the-variants.{Curved}
@@ -92,21 +93,21 @@ abbrev pub stepped : ℕ → ProgressView → List ℕ → List ℕ → View →
 stepped zero p out bytes v t = record { written = bytes; goesOn = true; after = record { view = v; text = t; number = next (p .number) } }
 stepped (suc n) p out bytes v t = stopped p (refusedIn out (suc n) (p .number))
 
--- "The page program writes text (curved, Persistent, Top)." A record has at most eight entries, so never too many
+-- "The page program writes text (curved, Persistent, Top)."
 abbrev pub pageRow : ProgressView → RecordView → List ℕ → StepReply
 pageRow p r out =
-    let t : TextReply = text (p .view) (p .text) Curved (r .id) false (r .entries) (r .mark) (r .message) out in
+    let t : TextReply = text (p .view) (p .text) Curved (r .id) (r .entries) (r .mark) (r .message) out in
     stepped (t .refusal) p out (take (t .length) (t .output)) (t .view) (t .text)
 
 -- "It tests the mark as text does (5, before the row) and ignores messages."
 abbrev pub listingChecks : ℕ → RowReply → List ℕ → List ℕ → List Check
 listingChecks mark r bytes out =
-    (5 when (ltb mark 0x21 || ltb 0x7e mark)) ∷ (r .refusal when not (eqb (r .refusal) 0)) ∷ (8 when ltb (length out) (length bytes)) ∷ []
+    (markOutsideSpan when not (isMark mark)) ∷ (r .refusal when not (eqb (r .refusal) notRefused)) ∷ (outputShorterThanLines when ltb (length out) (length bytes)) ∷ []
 
 -- a row of the listing program: its prefix lines
 abbrev pub listingRow : ProgressView → RecordView → List ℕ → StepReply
 listingRow p r out =
-    let q : RowReply = row (p .view) (r .id) false (r .entries) in
+    let q : RowReply = row (p .view) (r .id) (r .entries) in
     let bytes : List ℕ = listingBytes (q .shape) (r .mark) in
     stepped (refusal (listingChecks (r .mark) q bytes out)) p out bytes (q .view) (p .text)
 

@@ -2,14 +2,12 @@
 ghost use mathlib.Core.Path.{_≡_};
 ghost use Prim.Native.Nat.{_+_, _≤_};
 ghost use lib.ListN.{length};
-ghost use mathlib.Core.Bool.{false};
 ghost use mathlib.Core.List.{_++_};
-ghost use Rattle.render.specs.Entries.{tooMany};
 ghost use Rattle.glyphs.specs.Joins.{over};
 ghost use Rattle.record.specs.Record.{messageRoom};
 ghost use Rattle.record.specs.Promises.{recordViewOf};
-ghost use Rattle.steps.specs.Steps.{decimalIn, places, refusedIn, beginning, next as nextOf, stopped, pageRow, listingRow, pageStep, listingStep};
-ghost use Rattle.steps.specs.Promises.{progressViewOf, undrawn, Steps};
+ghost use Rattle.steps.specs.Steps.{decimalIn, places, refusedIn, next as nextOf, stopped, pageRow, listingRow, pageStep, listingStep};
+ghost use Rattle.steps.specs.Promises.{progressViewOf, Begins, undrawn, Steps};
 use glyphs::Renderer;
 use output::QUEUE_LIMIT;
 use output::TextState;
@@ -17,10 +15,13 @@ use prefix_lines::write_listing;
 use record::Outcome;
 use record::Record;
 use record::next_record;
+use render::ACCEPTED;
 use render::DashStyle;
 use render::LinkLinePlacement;
+use render::MARK_OUTSIDE_SPAN;
 use render::Options;
 use render::Style;
+use render::is_mark;
 use row_shape::next_row_shape;
 use shaper::Shaper;
 use text::write_next_text;
@@ -47,7 +48,7 @@ pub struct Step {
 
 // What both programs begin with: height 1, no staggering, Persistent, Top.
 pub fn begin() -> Progress
-    ensures { λ r. ⌜ progressViewOf r ≡ beginning ⌝ }
+    ensures { λ r. ⌜ Begins r ⌝ }
 {
     let dash_style = DashStyle::Persistent;
     let link_line_placement = LinkLinePlacement::Top;
@@ -179,7 +180,7 @@ fn without_record(out: &mut [u8], outcome: Outcome, progress: Progress) -> Step
 
 // Draws a record as text.
 fn page_row(out: &mut [u8], decoded: Record, progress: Progress) -> Step
-    requires { ⌜ (decoded .«message_length» ≤ messageRoom) × (tooMany (decoded .entries) ≡ false) ⌝ }
+    requires { ⌜ decoded .«message_length» ≤ messageRoom ⌝ }
     ensures { λ r. ⌜ Steps (pageRow (progressViewOf progress) (recordViewOf decoded) (now (out .entry))) progress (now (out .entry)) (now (out .exit)) r ⌝ }
 {
     let shaper = progress.shaper;
@@ -198,7 +199,7 @@ fn page_row(out: &mut [u8], decoded: Record, progress: Progress) -> Step
         &message[0..n],
         out,
     );
-    if given.refusal != 0 {
+    if given.refusal != ACCEPTED {
         return refused(out, given.refusal, progress);
     }
     let shaper_then = given.shaper;
@@ -216,22 +217,21 @@ fn page_row(out: &mut [u8], decoded: Record, progress: Progress) -> Step
 
 // Draws a record as lines of the listing.
 fn listing_row(out: &mut [u8], decoded: Record, progress: Progress) -> Step
-    requires { ⌜ tooMany (decoded .entries) ≡ false ⌝ }
     ensures { λ r. ⌜ Steps (listingRow (progressViewOf progress) (recordViewOf decoded) (now (out .entry))) progress (now (out .entry)) (now (out .exit)) r ⌝ }
 {
     let mark = decoded.mark;
-    if (mark < 0x21) | (0x7e < mark) {
-        return refused(out, 5, progress);
+    if !is_mark(mark) {
+        return refused(out, MARK_OUTSIDE_SPAN, progress);
     }
     let shaper = progress.shaper;
     let entries = decoded.entries;
     let given = next_row_shape(shaper, decoded.id, entries);
-    if given.refusal != 0 {
+    if given.refusal != ACCEPTED {
         return refused(out, given.refusal, progress);
     }
     let shape = given.shape;
     let written = write_listing(shape, mark, out);
-    if written.refusal != 0 {
+    if written.refusal != ACCEPTED {
         return refused(out, written.refusal, progress);
     }
     let shaper_then = given.shaper;

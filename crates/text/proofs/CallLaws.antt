@@ -1,6 +1,6 @@
 -- Laws of the text call: its answers, one for each way out.
 use mathlib.Core.Path.{_≡_, refl, sym, ap, ap₂, _∙_}
-use mathlib.Core.Bool.{Bool, true, false, cond, not, _||_}
+use mathlib.Core.Bool.{Bool, true, false, cond, not}
 use mathlib.Core.List.{List, [], _∷_}
 use Prim.Native.Nat.{ℕ, zero, suc, _<_, _≤_, min}
 use native.Mathlib.Omega.{arith}
@@ -11,8 +11,9 @@ use Rattle.column.specs.Columns.{columnLimit, SpareEmpty}
 use Rattle.render.specs.declared.render.Ancestor.{Ancestor as Entry}
 use Rattle.render.specs.declared.render.Entries.{Entries}
 use Rattle.render.specs.declared.types.RowShape.{RowShape}
-use Rattle.render.specs.Entries.{listed, tooMany}
-use Rattle.render.specs.Refusals.{refusal}
+use Rattle.render.specs.Entries.{listed}
+use Rattle.render.specs.Mark.{isMark}
+use Rattle.render.specs.Refusals.{notRefused, markOutsideSpan, messageTooLong, messageByteNotWritable, outputShorterThanLines, refusal}
 use Rattle.shaper.specs.declared.Shaper.{Shaper}
 use Rattle.row_shape.specs.declared.RowAnswer.{RowAnswer}
 use Rattle.shaper.specs.Shaper.{View, viewOf}
@@ -33,12 +34,12 @@ use Rattle.text.specs.Inner.{RowTexts}
 -- an accepted row has at most 64 cells
 pub accepted-width : (s : Shaper) (n : ℕ) (es : Entries) (g : RowAnswer) → Rows s n es g → g .refusal ≡ 0 → g .shape .width ≤ columnLimit
 accepted-width s n es g u z =
-    let e : rowReplyOf g ≡ row (viewOf s) n (tooMany es) (listed es) = u .reply in
-    rw (ap (λ (r : RowReply). r .shape .width) e) (row-fits (viewOf s) n (tooMany es) (listed es) (sym (ap (λ (r : RowReply). r .refusal) e) ∙ z))
+    let e : rowReplyOf g ≡ row (viewOf s) n (listed es) = u .reply in
+    rw (ap (λ (r : RowReply). r .shape .width) e) (row-fits (viewOf s) n (listed es) (sym (ap (λ (r : RowReply). r .refusal) e) ∙ z))
 
 module _ (s : Shaper) (t : TextState) (q : Renderer) (n : ℕ) (es : Entries) (mark : ℕ) (message out : List ℕ) where
   abbrev called : RowReply
-  called = row (viewOf s) n (tooMany es) (listed es)
+  called = row (viewOf s) n (listed es)
 
   abbrev lines : List (List ℕ)
   lines = textLines (textViewOf t) q (called .shape) mark (linesOf message) (viewOf s .height)
@@ -56,24 +57,21 @@ module _ (s : Shaper) (t : TextState) (q : Renderer) (n : ℕ) (es : Entries) (m
         refused = λ z. (refl, refl);
         fits = λ z. absurd (omega (arith, z));
         options = refl;
-        rest = λ z. z;
+        rest = λ z. absurd (omega (arith, z));
       })
-
-  abbrev badMark : Bool
-  badMark = ltb mark 0x21 || ltb 0x7e mark
 
   abbrev refusedWith : ℕ → TextAnswer
   refusedWith k = record { refusal = k; length = 0; measure = 0; shaper = s; state = t }
 
-  pub mark-refused : (r : TextAnswer) → badMark ≡ true → r ≡ refusedWith 5 → Texts s t q n es mark message out out r
+  pub mark-refused : (r : TextAnswer) → isMark mark ≡ false → r ≡ refusedWith markOutsideSpan → Texts s t q n es mark message out out r
   mark-refused r b e = refusing 4 r (rw b refl) e
 
-  module _ (b : badMark ≡ false) where
-    pub long-refused : (r : TextAnswer) → messageLimit < length message → r ≡ refusedWith 6 → Texts s t q n es mark message out out r
+  module _ (b : isMark mark ≡ true) where
+    pub long-refused : (r : TextAnswer) → messageLimit < length message → r ≡ refusedWith messageTooLong → Texts s t q n es mark message out out r
     long-refused r h e = refusing 5 r (rw (b, lt-ltb messageLimit (length message) h) refl) e
 
     module _ (h : length message ≤ messageLimit) where
-      pub byte-refused : (r : TextAnswer) → allOf isWritable message ≡ false → r ≡ refusedWith 7 → Texts s t q n es mark message out out r
+      pub byte-refused : (r : TextAnswer) → allOf isWritable message ≡ false → r ≡ refusedWith messageByteNotWritable → Texts s t q n es mark message out out r
       byte-refused r w e = refusing 6 r (rw (b, le-ltb messageLimit (length message) h, w) refl) e
 
       module _ (w : allOf isWritable message ≡ true) (g : RowAnswer) (u : Rows s n es g) where
@@ -104,7 +102,7 @@ module _ (s : Shaper) (t : TextState) (q : Renderer) (n : ℕ) (es : Entries) (m
 
           number-same : number ≡ x .refusal
           number-same =
-              rw (b, le-ltb messageLimit (length message) h, w, refusal-same, z) (ap (λ (l : List (List ℕ)). cond (ltb (length out) (length (textOf l))) 8 0) (sym drawn-same))
+              rw (b, le-ltb messageLimit (length message) h, w, refusal-same, z) (ap (λ (l : List (List ℕ)). cond (ltb (length out) (length (textOf l))) outputShorterThanLines notRefused) (sym drawn-same))
               ∙ sym (y .refusal)
 
           pub room-refused : (r : TextAnswer) → (x .refusal ≡ 0 → ⊥) → r ≡ refusedWith (x .refusal) → Texts s t q n es mark message out after r
@@ -132,5 +130,5 @@ module _ (s : Shaper) (t : TextState) (q : Renderer) (n : ℕ) (es : Entries) (m
                 refused = λ d. absurd (d refl);
                 fits = λ d. u .fits z;
                 options = u .options;
-                rest = u .rest;
+                rest = λ d. u .rest z;
               })

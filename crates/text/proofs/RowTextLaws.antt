@@ -14,6 +14,7 @@ use Rattle.render.specs.declared.types.LinkLinePlacement.{LinkLinePlacement}
 use Rattle.render.specs.declared.types.LinkLinePlacement.the-variants.{Top, Bottom}
 use Rattle.render.specs.declared.types.RowShape.{RowShape}
 use Rattle.render.specs.Lines.{cellsOf}
+use Rattle.render.specs.Refusals.{outputShorterThanLines}
 use Rattle.shaper.specs.Shaper.{heightLimit}
 use Rattle.glyphs.specs.declared.Renderer.{Renderer}
 use Rattle.glyphs.specs.declared.types.Line.{Line}
@@ -239,7 +240,7 @@ module _ (t : TextState) (q : Renderer) (g : RowShape) (mark : ℕ) (m : List �
     abbrev wanted : List (List ℕ)
     wanted = textLines (textViewOf t) q g mark (linesOf m) height
 
-    pub no-room : (after : List ℕ) → after ≡ before → fits ≡ false → r .refusal ≡ 8 → RowTexts (textViewOf t) q g mark m height before after r
+    pub no-room : (after : List ℕ) → after ≡ before → fits ≡ false → r .refusal ≡ outputShorterThanLines → RowTexts (textViewOf t) q g mark m height before after r
     no-room after same z e =
         let k : length before < length (textOf wanted) = rw put-same at (leb-false (length (textOf put)) (length before) (sym f ∙ z)) in
         record {

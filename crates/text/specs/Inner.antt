@@ -7,6 +7,7 @@ use lib.Dec.{eqb, ltb}
 use lib.ListN.{length, take, drop, replicate}
 use Rattle.render.specs.declared.types.LinkLinePlacement.{LinkLinePlacement}
 use Rattle.render.specs.declared.types.RowShape.{RowShape}
+use Rattle.render.specs.Refusals.{notRefused, outputShorterThanLines}
 use Rattle.glyphs.specs.declared.Renderer.{Renderer}
 use Rattle.glyphs.specs.declared.types.Line.{Line}
 use Rattle.glyphs.specs.declared.types.Line.the-variants.{Link, SecondLink, Term, SecondTerm, Ancestry, PostAncestry}
@@ -100,7 +101,7 @@ drawnOf g q mark = record { renderer = q; row = rowOf g; mark = mark; cells = g 
 
 -- written where the output has room for it; else nothing is
 pub record RowTexts (t : TextView) (q : Renderer) (g : RowShape) (mark : ℕ) (message : List ℕ) (height : ℕ) (before after : List ℕ) (r : RowText) : Type 0 where
-  pub refusal : r .refusal ≡ cond (ltb (length before) (length (textOf (textLines t q g mark (linesOf message) height)))) 8 0
+  pub refusal : r .refusal ≡ cond (ltb (length before) (length (textOf (textLines t q g mark (linesOf message) height)))) outputShorterThanLines notRefused
   pub kept : (r .refusal ≡ 0 → ⊥) → after ≡ before
   pub written : r .refusal ≡ 0
       → (r .length ≡ length (textOf (textLines t q g mark (linesOf message) height)))

@@ -4,7 +4,7 @@ use mathlib.Core.Path.{_≡_}
 use mathlib.Core.List.{List}
 use Rattle.column.specs.Columns.{columnLimit, SpareEmpty}
 use Rattle.render.specs.declared.render.Entries.{Entries}
-use Rattle.render.specs.Entries.{listed, tooMany}
+use Rattle.render.specs.Entries.{listed}
 use Rattle.shaper.specs.declared.Shaper.{Shaper}
 use Rattle.shaper.specs.Shaper.{viewOf}
 use Rattle.glyphs.specs.declared.Renderer.{Renderer}
@@ -25,11 +25,11 @@ textReplyOf r out =
       text = textViewOf (r .state);
     }
 
--- what the definition says; a refusal leaves the structs themselves as they were; else the raw count is at most 64;
--- the options stay; slots past the count stay Empty if they were
+-- what the definition says; a refusal leaves the structs themselves as they were; else the raw count is at most 64
+-- and the slots past it are Empty; the options stay
 pub record Texts (s : Shaper) (t : TextState) (q : Renderer) (n : ℕ) (es : Entries) (mark : ℕ) (message before after : List ℕ) (r : TextAnswer) : Type 0 where
-  pub reply : textReplyOf r after ≡ text (viewOf s) (textViewOf t) q n (tooMany es) (listed es) mark message before
+  pub reply : textReplyOf r after ≡ text (viewOf s) (textViewOf t) q n (listed es) mark message before
   pub refused : (r .refusal ≡ 0 → ⊥) → (r .shaper ≡ s) × (r .state ≡ t)
   pub fits : r .refusal ≡ 0 → r .shaper .count ≤ columnLimit
   pub options : r .shaper .options ≡ s .options
-  pub rest : SpareEmpty (s .count) (s .slots) → SpareEmpty (r .shaper .count) (r .shaper .slots)
+  pub rest : r .refusal ≡ 0 → SpareEmpty (r .shaper .count) (r .shaper .slots)

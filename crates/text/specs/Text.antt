@@ -1,6 +1,6 @@
 -- The text call (`write_next_text` in graph_text_renderer.rs): the lines of a row with their messages, and the answer.
 use Prim.Native.Nat.{ℕ, zero, suc, _-_, max}
-use mathlib.Core.Bool.{Bool, true, false, cond, not, _&&_, _||_}
+use mathlib.Core.Bool.{Bool, true, false, cond, not, _&&_}
 use mathlib.Core.List.{List, [], _∷_, _++_, map}
 use lib.Dec.{ltb, eqb}
 use lib.ListN.{length, replicate}
@@ -8,7 +8,8 @@ use Rattle.render.specs.declared.render.Ancestor.{Ancestor as Entry}
 use Rattle.render.specs.declared.types.LinkLinePlacement.{LinkLinePlacement}
 use Rattle.render.specs.declared.types.LinkLinePlacement.the-variants.{Top, Bottom}
 use Rattle.render.specs.declared.types.RowShape.{RowShape}
-use Rattle.render.specs.Refusals.{Check, _when_, refusal}
+use Rattle.render.specs.Mark.{isMark}
+use Rattle.render.specs.Refusals.{notRefused, markOutsideSpan, messageTooLong, messageByteNotWritable, outputShorterThanLines, Check, _when_, refusal}
 use Rattle.shaper.specs.Shaper.{View}
 use Rattle.row_shape.specs.Row.{RowReply, row}
 use Rattle.glyphs.specs.declared.Renderer.{Renderer}
@@ -98,11 +99,11 @@ textLines t q g mark ms height = beginRow (g .«separator_line») t ++ rowLines 
 -- text's rows of 01's table, in their order; the row call's own refusal, 3 or 4, stands between
 abbrev pub textChecks : ℕ → List ℕ → RowReply → List ℕ → List ℕ → List Check
 textChecks mark message r bytes out =
-    (5 when (ltb mark 0x21 || ltb 0x7e mark))
-    ∷ (6 when ltb messageLimit (length message))
-    ∷ (7 when not (allOf isWritable message))
-    ∷ (r .refusal when not (eqb (r .refusal) 0))
-    ∷ (8 when ltb (length out) (length bytes))
+    (markOutsideSpan when not (isMark mark))
+    ∷ (messageTooLong when ltb messageLimit (length message))
+    ∷ (messageByteNotWritable when not (allOf isWritable message))
+    ∷ (r .refusal when not (eqb (r .refusal) notRefused))
+    ∷ (outputShorterThanLines when ltb (length out) (length bytes))
     ∷ []
 
 -- what the text call gives: "The text call gives it [the line measure] beside its length" (01, "Added by us")
@@ -120,10 +121,10 @@ textAnswer zero ls out v w t u =
     record { refusal = 0; length = length (textOf ls); measure = lineMeasure ls; output = over (textOf ls) out; view = w; text = u }
 textAnswer (suc n) ls out v w t u = record { refusal = suc n; length = 0; measure = 0; output = out; view = v; text = t }
 
--- the text call (`write_next_text` in graph_text_renderer.rs), where many says that there are too many entries
-unfoldable pub text : View → TextView → Renderer → ℕ → Bool → List Entry → ℕ → List ℕ → List ℕ → TextReply
-text v t q n many es mark message out =
-    let r : RowReply = row v n many es in
+-- the text call (`write_next_text` in graph_text_renderer.rs) on a list of any length
+unfoldable pub text : View → TextView → Renderer → ℕ → List Entry → ℕ → List ℕ → List ℕ → TextReply
+text v t q n es mark message out =
+    let r : RowReply = row v n es in
     let ms : List (List ℕ) = linesOf message in
     let ls : List (List ℕ) = textLines t q (r .shape) mark ms (v .height) in
     textAnswer (refusal (textChecks mark message r (textOf ls) out)) ls out v (r .view) t (textAfter q (r .shape) mark ms (v .height))

@@ -8,7 +8,12 @@ use glyphs::Renderer;
 use message::MESSAGE_LIMIT;
 use message::are_writable;
 use output::TextState;
+use render::ACCEPTED;
 use render::Entries;
+use render::MARK_OUTSIDE_SPAN;
+use render::MESSAGE_BYTE_NOT_WRITABLE;
+use render::MESSAGE_TOO_LONG;
+use render::is_mark;
 use row_shape::next_row_shape;
 use shaper::HEIGHT_LIMIT;
 use shaper::Shaper;
@@ -60,29 +65,29 @@ pub fn write_next_text(
 ) -> TextAnswer
     ensures { λ r. ⌜ Texts shaper state renderer node entries mark (now (message .entry)) (now (out .entry)) (now (out .exit)) r ⌝ }
 {
-    if (mark < 0x21) | (0x7e < mark) {
-        return refused(5, shaper, state);
+    if !is_mark(mark) {
+        return refused(MARK_OUTSIDE_SPAN, shaper, state);
     }
     if MESSAGE_LIMIT < message.len() {
-        return refused(6, shaper, state);
+        return refused(MESSAGE_TOO_LONG, shaper, state);
     }
     if !are_writable(message) {
-        return refused(7, shaper, state);
+        return refused(MESSAGE_BYTE_NOT_WRITABLE, shaper, state);
     }
     let given = next_row_shape(shaper, node, entries);
-    if given.refusal != 0 {
+    if given.refusal != ACCEPTED {
         return refused(given.refusal, shaper, state);
     }
     let shape = given.shape;
     let height = min_row_height(shaper);
     let written = write_row_text(out, shape, renderer, mark, message, height, state);
-    if written.refusal != 0 {
+    if written.refusal != ACCEPTED {
         return refused(written.refusal, shaper, state);
     }
     let shaper_then = given.shaper;
     let state_then = written.state;
     TextAnswer {
-        refusal: 0,
+        refusal: ACCEPTED,
         length: written.length,
         measure: written.measure,
         shaper: shaper_then,

@@ -34,8 +34,10 @@ use output::Put;
 use output::TextState;
 use output::begin_row;
 use output::greater;
+use render::ACCEPTED;
 use render::Cell;
 use render::LinkLinePlacement;
+use render::OUTPUT_SHORTER_THAN_LINES;
 use render::RowShape;
 
 // What the lines of a row are drawn from.
@@ -388,7 +390,7 @@ pub(crate) fn write_row_text(
     let separator = shape.separator_line;
     if !has_room(out, &table, drawn, plan, message, state, separator) {
         return RowText {
-            refusal: 8,
+            refusal: OUTPUT_SHORTER_THAN_LINES,
             length: 0,
             measure: 0,
             state,
@@ -397,7 +399,7 @@ pub(crate) fn write_row_text(
     let put = put_text(out, &table, drawn, plan, message, state, separator);
     let after = state_after(&table, drawn, plan, state);
     RowText {
-        refusal: 0,
+        refusal: ACCEPTED,
         length: put.length,
         measure: put.measure,
         state: after,

@@ -14,7 +14,7 @@ use Rattle.width.specs.declared.Room.{Room}
 use Rattle.width.specs.declared.NewNode.{NewNode}
 use Rattle.width.specs.declared.NewNode.the-variants.{Node, Absent}
 use Rattle.render.specs.Entries.{tooMany}
-use Rattle.render.specs.Refusals.{_when_, refusal}
+use Rattle.render.specs.Refusals.{tooManyEntries, _when_, refusal}
 use Rattle.width.specs.declared.WidthAnswer.{WidthAnswer}
 use Rattle.shaper.specs.Shaper.{View, isNothing}
 use Rattle.shaper.specs.NodeColumn.{dense}
@@ -54,4 +54,4 @@ widthAnswer (suc k) w = record { refusal = suc k; width = 0 }
 unfoldable pub width : View → NewNode → List Entry → WidthAnswer
 width v n es =
     let r : Room = forNode v n (record { wide = length (v .columns); free = count isEmpty (v .columns) }) in
-    widthAnswer (refusal ((3 when tooMany es) ∷ [])) (r .wide + (count (unheld (v .columns)) es - r .free - 1))
+    widthAnswer (refusal ((tooManyEntries when tooMany es) ∷ [])) (r .wide + (count (unheld (v .columns)) es - r .free - 1))

@@ -10,10 +10,10 @@ use column::COLUMN_LIMIT;
 use column::Found;
 use column::Slot;
 use placing::held_by;
+use render::ACCEPTED;
 use render::Entries;
-use shaper::ACCEPTED;
+use render::TOO_MANY_ENTRIES;
 use shaper::Shaper;
-use shaper::TOO_MANY_ENTRIES;
 
 // The node of a width call.
 pub enum NewNode {

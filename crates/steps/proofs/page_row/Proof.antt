@@ -11,7 +11,7 @@ part-write-next-text-start : tie.Need-part-write-next-text-start
 part-write-next-text-start c = search needs
 
 part-write-next-text-end : tie.Need-part-write-next-text-end
-part-write-next-text-end c = omega (arith, c .before .before .before .before .before .before .pre .0, message-long (c .before .before .before .before .before .before .args .decoded .message) _ (c .before .before .before .before .before .before .good .1 .0 .1 .1 .1 .1 .1 .0 .1 .0 .1))
+part-write-next-text-end c = omega (arith, c .before .before .before .before .before .before .pre, message-long (c .before .before .before .before .before .before .args .decoded .message) _ (c .before .before .before .before .before .before .good .1 .0 .1 .1 .1 .1 .1 .0 .1 .0 .1))
 
 write-next-text-requires : tie.Need-write-next-text-requires
 write-next-text-requires c κs = search needs
@@ -26,7 +26,7 @@ returns : tie.Need-returns
 returns c =
     let c8 = c .before .before .before .before .before .before .before .before in
     let c17 = c8 .before .before .before .before .before .before .before .before .before in
-    page-stops (c17 .args .progress) (c17 .args .decoded) (c17 .args .out .now) (c17 .pre .1) _ (front-is (c17 .args .decoded .«message_length») (c17 .args .decoded .message)) (c8 .write-next-text .result) _ (c8 .write-next-text .ensures) (c .before .before .before .before .if1 .taken) _ _ (c .before .before .refused .ensures)
+    page-stops (c17 .args .progress) (c17 .args .decoded) (c17 .args .out .now) _ (front-is (c17 .args .decoded .«message_length») (c17 .args .decoded .message)) (c8 .write-next-text .result) _ (c8 .write-next-text .ensures) (c .before .before .before .before .if1 .taken) _ _ (c .before .before .refused .ensures)
 
 next-requires : tie.Need-next-requires
 next-requires c κs = search needs
@@ -38,7 +38,7 @@ returns-2 : tie.Need-returns-2
 returns-2 c =
     let c7 = c .before .before .before .before .before .before .before in
     let c16 = c7 .before .before .before .before .before .before .before .before .before in
-    page-goes (c16 .args .progress) (c16 .args .decoded) (c16 .args .out .now) (c16 .pre .1) _ (front-is (c16 .args .decoded .«message_length») (c16 .args .decoded .message)) (c7 .write-next-text .result) _ (c7 .write-next-text .ensures) _ (c .next .ensures) (c .before .before .before .if1 .left)
+    page-goes (c16 .args .progress) (c16 .args .decoded) (c16 .args .out .now) _ (front-is (c16 .args .decoded .«message_length») (c16 .args .decoded .message)) (c7 .write-next-text .result) _ (c7 .write-next-text .ensures) _ (c .next .ensures) (c .before .before .before .if1 .left)
 
 pub page-row-spec : {M : Type 1} → statement M
 page-row-spec =
