@@ -1,8 +1,13 @@
 // Whole histories: the row call and the text call on every record of a history, for bench, which times them beside the Rust.
-ghost use Prim.Native.Nat.{_*_, _+_, _≤_};
+ghost use mathlib.Core.Path.{_≡_};
+ghost use Prim.Native.Nat.{_+_, _≤_, _%_, min};
 ghost use lib.ListN.{length};
-ghost use Rattle.record.specs.Record.{recordLength, parentLimit};
-ghost use Rattle.whole_history.specs.Shapes.{shapeRoom};
+ghost use Rattle.glyphs.specs.Joins.{over};
+ghost use Rattle.record.specs.Record.{recordLength, idAt, entryOf};
+ghost use Rattle.record.specs.Promises.{entriesWith};
+ghost use Rattle.whole_history.specs.Shapes.{flag as flagOf, nodeNumber, padNumber, cellBytes, headBytes, shapeBytes};
+ghost use Rattle.whole_history.specs.Whole.{entriesOf, rendererOf, wholeText, wholeShapes};
+ghost use Rattle.whole_history.specs.Promises.{Put};
 use column::COLUMN_LIMIT;
 use glyphs::Renderer;
 use record::PARENT_LIMIT;
@@ -34,42 +39,47 @@ const HEAD: usize = 12;
 const CELL: usize = 8;
 
 // A byte as a wider number.
-fn wide(byte: u8) -> u32 {
+fn wide(byte: u8) -> u32
+    ensures { λ r. ⌜ (r ≡ byte) × (r ≤ 255) ⌝ }
+{
     byte as u32
 }
 
 // The id at a place of a record, low byte first.
 fn id_at(bytes: &[u8], at: usize) -> u32
     requires { ⌜ at + 4 ≤ length (now bytes) ⌝ }
+    ensures { λ r. ⌜ r ≡ idAt (now (bytes .entry)) at ⌝ }
 {
     wide(bytes[at])
-        | wide(bytes[at + 1]) << 8
-        | wide(bytes[at + 2]) << 16
-        | wide(bytes[at + 3]) << 24
+        + 0x100 * wide(bytes[at + 1])
+        + 0x10000 * wide(bytes[at + 2])
+        + 0x1000000 * wide(bytes[at + 3])
 }
 
-// The parent entry with this kind and id; a kind above 2 is Anonymous.
-fn ancestor(kind: u8, id: u32) -> Ancestor {
+// The parent entry with this kind and id; a kind above 2 is read as 2.
+fn ancestor(kind: u8, id: u32) -> Ancestor
+    ensures { λ r. ⌜ r ≡ entryOf (record { kind = kind; id = id }) ⌝ }
+{
     match kind {
+        0 => Ancestor::Anonymous,
         1 => Ancestor::Ancestor(id),
-        2 => Ancestor::Parent(id),
-        _ => Ancestor::Anonymous,
+        _ => Ancestor::Parent(id),
     }
 }
 
-// The parent count; one above 8 is read as 8.
-fn parent_count(count: u8) -> usize
-    ensures { λ r. ⌜ r ≤ parentLimit ⌝ }
+// A number; one above the most is read as the most.
+fn at_most(n: usize, most: usize) -> usize
+    ensures { λ r. ⌜ r ≡ min n most ⌝ }
 {
-    let n = count as usize;
-    if PARENT_LIMIT < n { PARENT_LIMIT } else { n }
+    if most < n { most } else { n }
 }
 
 // The entries of a record.
 fn entries_of(bytes: &[u8]) -> Entries
     requires { ⌜ recordLength ≤ length (now bytes) ⌝ }
+    ensures { λ r. ⌜ r ≡ entriesWith (entriesOf (now (bytes .entry))) ⌝ }
 {
-    let count = parent_count(bytes[COUNT_AT]);
+    let count = at_most(wide(bytes[COUNT_AT]) as usize, PARENT_LIMIT);
     let none = Ancestor::Anonymous;
     let unused = Entry { ancestor: none };
     let mut list = [unused; ENTRY_LIMIT];
@@ -88,7 +98,9 @@ fn entries_of(bytes: &[u8]) -> Entries
 }
 
 // The renderer with this number; one above 4 is DEC.
-fn renderer_of(number: u8) -> Renderer {
+fn renderer_of(number: u8) -> Renderer
+    ensures { λ r. ⌜ r ≡ rendererOf number ⌝ }
+{
     match number {
         0 => Renderer::Ascii,
         1 => Renderer::AsciiLarge,
@@ -98,22 +110,10 @@ fn renderer_of(number: u8) -> Renderer {
     }
 }
 
-// Where the next row goes in an output of some size: behind this one if the rows are kept, else to the beginning.
-fn next_place(kept: bool, from: usize, written: usize, size: usize) -> usize
-    ensures { λ r. ⌜ r ≤ size ⌝ }
-{
-    if kept {
-        if from <= size {
-            if written <= size - from {
-                return from + written;
-            }
-        }
-    }
-    0
-}
-
 // The number of a node line's cell.
-fn node_number(cell: NodeLine) -> u64 {
+fn node_number(cell: NodeLine) -> u8
+    ensures { λ r. ⌜ r ≡ nodeNumber cell ⌝ }
+{
     match cell {
         NodeLine::Blank => 0,
         NodeLine::Ancestor => 1,
@@ -123,7 +123,9 @@ fn node_number(cell: NodeLine) -> u64 {
 }
 
 // The number of an ancestry line's cell.
-fn ancestry_number(cell: PadLine) -> u64 {
+fn pad_number(cell: PadLine) -> u8
+    ensures { λ r. ⌜ r ≡ padNumber cell ⌝ }
+{
     match cell {
         PadLine::Blank => 0,
         PadLine::Ancestor => 1,
@@ -131,76 +133,96 @@ fn ancestry_number(cell: PadLine) -> u64 {
     }
 }
 
+// A flag's byte.
+fn flag(holds: bool) -> u8
+    ensures { λ r. ⌜ r ≡ flagOf holds ⌝ }
+{
+    if holds { 1 } else { 0 }
+}
+
 // A number's low byte.
-fn low_byte(n: u64) -> u8 {
+fn low_byte(n: u64) -> u8
+    ensures { λ r. ⌜ r ≡ n % 0x100 ⌝ }
+{
     (n % 0x100) as u8
 }
 
-// Writes a number's low byte at a place, where there is one.
-fn put(out: &mut [u8], at: usize, n: u64) {
-    if at < out.len() {
-        out[at] = low_byte(n);
-    }
-}
-
-// Writes a number's two low bytes, the lowest first.
-fn put_two(out: &mut [u8], at: usize, n: u64)
-    requires { ⌜ at + 2 ≤ shapeRoom ⌝ }
-{
-    put(out, at, n);
-    put(out, at + 1, n / 0x100);
-}
-
-// Writes a cell: node, link, link from node, term, ancestry, parent.
-fn write_cell(out: &mut [u8], at: usize, cell: Cell)
-    requires { ⌜ at + 8 ≤ shapeRoom ⌝ }
+// A cell's bytes: node, link, link from node, term, ancestry, parent.
+fn cell_bytes(cell: Cell) -> [u8; CELL]
+    ensures { λ r. ⌜ r ≡ cellBytes cell ⌝ }
 {
     let node = cell.node;
     let link = cell.link;
     let link_from_node = cell.link_from_node;
     let ancestry = cell.ancestry;
-    put(out, at, node_number(node));
-    put_two(out, at + 1, link.bits as u64);
-    put_two(out, at + 3, link_from_node.bits as u64);
-    put(out, at + 5, cell.term as u64);
-    put(out, at + 6, ancestry_number(ancestry));
-    put(out, at + 7, cell.parent as u64);
+    let bits = link.bits as u64;
+    let bits_from_node = link_from_node.bits as u64;
+    [
+        node_number(node),
+        low_byte(bits),
+        low_byte(bits / 0x100),
+        low_byte(bits_from_node),
+        low_byte(bits_from_node / 0x100),
+        flag(cell.term),
+        pad_number(ancestry),
+        flag(cell.parent),
+    ]
 }
 
-// Writes a shape's node.
-fn write_id(out: &mut [u8], node: u32) {
-    put_two(out, 0, node as u64);
-    put_two(out, 2, node as u64 / 0x10000);
+// What a shape says of its row, in bytes: the node's id, whether it is a head, a root and a merge, and its column; how many cells the lines
+// have, and whether there is a separator, a link line and a term line.
+fn head_bytes(shape: RowShape) -> [u8; HEAD]
+    ensures { λ r. ⌜ r ≡ headBytes shape ⌝ }
+{
+    let node = shape.node as u64;
+    let high = node / 0x10000;
+    [
+        low_byte(node),
+        low_byte(node / 0x100),
+        low_byte(high),
+        low_byte(high / 0x100),
+        flag(shape.is_head),
+        flag(shape.is_root),
+        flag(shape.merge),
+        low_byte(shape.node_column as u64),
+        low_byte(shape.width as u64),
+        flag(shape.separator_line),
+        flag(shape.link_line),
+        flag(shape.term_line),
+    ]
 }
 
-// Writes what a shape says of its node: whether it is a head, a root and a merge, and its column.
-fn write_node(out: &mut [u8], shape: RowShape) {
-    put(out, 4, shape.is_head as u64);
-    put(out, 5, shape.is_root as u64);
-    put(out, 6, shape.merge as u64);
-    put(out, 7, shape.node_column as u64);
-}
-
-// Writes what a shape says of its lines: how many cells they have, and whether there is a separator, a link line and a term line.
-fn write_lines(out: &mut [u8], shape: RowShape) {
-    put(out, 8, shape.width as u64);
-    put(out, 9, shape.separator_line as u64);
-    put(out, 10, shape.link_line as u64);
-    put(out, 11, shape.term_line as u64);
-}
-
-// Writes a shape, the row's bytes and then each cell's, and gives their count.
-fn write_shape(out: &mut [u8], shape: RowShape) -> usize {
-    write_id(out, shape.node);
-    write_node(out, shape);
-    write_lines(out, shape);
-    let width = column::live_count(shape.width);
+// Writes some bytes.
+fn write_bytes(out: &mut [u8], bytes: &[u8])
+    requires { ⌜ length (now bytes) ≤ length (now out) ⌝ }
+    ensures { λ r. ⌜ now (out .exit) ≡ over (now (bytes .entry)) (now (out .entry)) ⌝ }
+{
     let mut i: usize = 0;
-    while i < width {
-        write_cell(out, HEAD + CELL * i, shape.cells[i]);
+    while i < bytes.len() {
+        out[i] = bytes[i];
         i += 1;
     }
-    HEAD + CELL * i
+}
+
+// Writes a shape where there is room for it, the row's bytes and then each cell's, and gives their count; else writes nothing and gives 0.
+fn write_shape(out: &mut [u8], shape: RowShape) -> usize
+    ensures { λ r. ⌜ Put (shapeBytes shape) (now (out .entry)) (now (out .exit)) r ⌝ }
+{
+    let width = at_most(shape.width, COLUMN_LIMIT);
+    let size = HEAD + CELL * width;
+    if out.len() < size {
+        return 0;
+    }
+    let head = head_bytes(shape);
+    write_bytes(out, &head);
+    let mut i: usize = 0;
+    while i < width {
+        let at = HEAD + CELL * i;
+        let cell = cell_bytes(shape.cells[i]);
+        write_bytes(&mut out[at..], &cell);
+        i += 1;
+    }
+    size
 }
 
 // The text call on each record, with the lent message in the place of the record's own: each text behind the one before it if they are
@@ -213,7 +235,7 @@ pub extern "C" fn whole_history_text(
     kept: bool,
     out: &mut [u8],
 ) -> usize
-    ensures { λ r. ⌜ recordLength * r ≤ length (now (records .entry)) ⌝ }
+    ensures { λ r. ⌜ wholeText (now (records .entry)) (now (message .entry)) renderer kept (now (out .entry)) ≡ record { rows = r; output = now (out .exit) } ⌝ }
 {
     let drawing = renderer_of(renderer);
     let begun = steps::begin();
@@ -240,17 +262,19 @@ pub extern "C" fn whole_history_text(
         }
         shaper = given.shaper;
         state = given.state;
-        from = next_place(kept, from, given.length, out.len());
+        if kept {
+            from += given.length;
+        }
         rows = drawn;
     }
     rows
 }
 
 // The row call on each record: each shape behind the one before it if they are kept, else the node's cell alone at the output's beginning.
-// Ends at the first row that is refused, and gives the count of those that were not.
+// Ends at the first row that is refused or that there is no room for, and gives the count of those before it.
 #[no_mangle]
 pub extern "C" fn whole_history_shapes(records: &[u8], kept: bool, out: &mut [u8]) -> usize
-    ensures { λ r. ⌜ recordLength * r ≤ length (now (records .entry)) ⌝ }
+    ensures { λ r. ⌜ wholeShapes (now (records .entry)) kept (now (out .entry)) ≡ record { rows = r; output = now (out .exit) } ⌝ }
 {
     let begun = steps::begin();
     let mut shaper = begun.shaper;
@@ -269,9 +293,16 @@ pub extern "C" fn whole_history_shapes(records: &[u8], kept: bool, out: &mut [u8
         let column = shape.node_column;
         if kept {
             let written = write_shape(&mut out[from..], shape);
-            from = next_place(kept, from, written, out.len());
+            if written == 0 {
+                return rows;
+            }
+            from += written;
         } else if column < COLUMN_LIMIT {
-            write_cell(out, 0, shape.cells[column]);
+            if out.len() - from < CELL {
+                return rows;
+            }
+            let cell = cell_bytes(shape.cells[column]);
+            write_bytes(&mut out[from..], &cell);
         }
         rows = drawn;
     }

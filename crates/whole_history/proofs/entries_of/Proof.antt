@@ -1,24 +1,36 @@
-use Prim.Native.Nat.{_≤_, _-_}
+-- `whole_history::entries_of` meets its contract. The loop's invariant: the array holds the first i entries, and none behind them.
+use Prim.Native.Nat.{_≤_, _-_, min}
+use mathlib.Core.Path.{_≡_, refl}
+use native.Mathlib.Omega.{arith}
 use lib.ListN.{length}
+use Rattle.record.specs.Record.{recordLength, parentCount, parentLimit}
+use Rattle.record.specs.Promises.{entriesWith}
+use Rattle.whole_history.proofs.RecordReads.{first, list-next, entries-done}
 use borrow.Author.Needs.{needs}
-use Rattle.record.specs.Record.{recordLength, parentLimit}
 use Rattle.whole_history.proofs.entries_of.Statement.{statement}
 use Rattle.whole_history.proofs.entries_of.Tie as tie
 
 abbrev Inv-loop : tie.InvT-loop
-Inv-loop bytes count list₀ i₀ list i = (i ≤ count) × (count ≤ parentLimit) × (recordLength ≤ length bytes)
+Inv-loop bytes count list₀ i₀ list i =
+    (i ≤ count) × (count ≤ parentLimit) × (recordLength ≤ length bytes) × (count ≡ min (parentCount bytes) parentLimit) × (list ≡ entriesWith (first bytes i) .list)
 
 abbrev μ-loop : tie.MeasureT-loop
 μ-loop bytes count list₀ i₀ list i = count - i
 
-shared-slice-read-parent-count : tie.Need-shared-slice-read-parent-count Inv-loop μ-loop
-shared-slice-read-parent-count c = search needs
+shared-slice-read-wide : tie.Need-shared-slice-read-wide Inv-loop μ-loop
+shared-slice-read-wide c = search needs
 
-parent-count-requires : tie.Need-parent-count-requires Inv-loop μ-loop
-parent-count-requires c κs = search needs
+wide-requires : tie.Need-wide-requires Inv-loop μ-loop
+wide-requires c κs = search needs
+
+cast-at-most : tie.Need-cast-at-most Inv-loop μ-loop
+cast-at-most c = search needs
+
+at-most-requires : tie.Need-at-most-requires Inv-loop μ-loop
+at-most-requires c κs = search needs
 
 loop-holds : tie.Need-loop-holds Inv-loop μ-loop
-loop-holds c = search needs
+loop-holds c = (search needs, search needs, search needs, cc, refl)
 
 mul-at : tie.Need-mul-at Inv-loop μ-loop
 mul-at c = search needs
@@ -51,10 +63,14 @@ loop-less : tie.Need-loop-less Inv-loop μ-loop
 loop-less c = search needs
 
 loop-again : tie.Need-loop-again Inv-loop μ-loop
-loop-again c = search needs
+loop-again c =
+    let l = c .before .before .before .before .loop in
+    (search needs, search needs, search needs, search needs, list-next _ (l .i) (l .inv .4) (c .ancestor .ensures) (c .before .id-at .ensures) (omega arith))
 
 returns : tie.Need-returns Inv-loop μ-loop
-returns c = search needs
+returns c =
+    let l = c .before .loop in
+    entries-done _ _ (l .i) (l .inv .4) (omega arith) (l .inv .3)
 
 pub entries-of-spec : {M : Type 1} → statement M
 entries-of-spec =
@@ -62,8 +78,10 @@ entries-of-spec =
     (tie.spec
     Inv-loop
     μ-loop
-    shared-slice-read-parent-count
-    parent-count-requires
+    shared-slice-read-wide
+    wide-requires
+    cast-at-most
+    at-most-requires
     loop-holds
     mul-at
     add-at

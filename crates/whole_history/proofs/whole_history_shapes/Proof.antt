@@ -1,22 +1,30 @@
-use Prim.Native.Nat.{_*_, _≤_, _-_}
-use lib.ListN.{length}
-use mathlib.Core.Path.{_≡_}
+-- `whole_history::whole_history_shapes` meets its contract. The loop's invariant: what is left to do from here gives the whole.
+use Prim.Native.Nat.{_*_, _-_}
+use native.Mathlib.Omega.{arith}
 use borrow.Author.Needs.{needs}
+use lib.ListN.{length}
+use Rattle.render.specs.Lines.{blankCell}
 use Rattle.record.specs.Record.{recordLength}
+use Rattle.whole_history.proofs.ShapeLaws.{cells-long}
+use Rattle.whole_history.proofs.ShapeTurn.{ShapesLeft, shapes-begin, shapes-end, shapes-refused, kept-full, kept-fits, kept-goes, node-absent, node-full, node-goes}
 use Rattle.whole_history.proofs.whole_history_shapes.Statement.{statement}
 use Rattle.whole_history.proofs.whole_history_shapes.Tie as tie
 
 abbrev Inv-loop : tie.InvT-loop
-Inv-loop records kept out₀ shaper₀ from₀ rows₀ out shaper from rows = (recordLength * rows ≤ length records) × (from ≤ length out) × (length out ≡ length out₀)
+Inv-loop records kept out₀ shaper₀ from₀ rows₀ out shaper from rows =
+    ShapesLeft records kept out₀ shaper from rows out
 
 abbrev μ-loop : tie.MeasureT-loop
-μ-loop records kept out₀ shaper₀ from₀ rows₀ out shaper from rows = length records - recordLength * rows
+μ-loop records kept out₀ shaper₀ from₀ rows₀ out shaper from rows =
+    length records - recordLength * rows
 
 begin-requires : tie.Need-begin-requires Inv-loop μ-loop
 begin-requires c κs = search needs
 
 loop-holds : tie.Need-loop-holds Inv-loop μ-loop
-loop-holds c = search needs
+loop-holds c =
+    let begun = c .before .begin in
+    shapes-begin _ _ _ (begun .result) (begun .ensures)
 
 mul-loop : tie.Need-mul-loop Inv-loop μ-loop
 mul-loop c = search needs
@@ -55,7 +63,11 @@ same-length : tie.Need-same-length Inv-loop μ-loop
 same-length c = search needs
 
 returns : tie.Need-returns Inv-loop μ-loop
-returns c = search needs
+returns c =
+    let call = c .before .before in
+    let read = call .before .before in
+    let l = read .before .before .before .loop in
+    shapes-refused _ _ _ (l .from) (l .rows) (l .out) (l .inv) (read .before .before .loop-test .taken) (call .next-row-shape .result) (read .id-at .ensures) (call .before .entries-of .ensures) (call .next-row-shape .ensures) (c .if1 .taken)
 
 sub-write-shape : tie.Need-sub-write-shape Inv-loop μ-loop
 sub-write-shape c = search needs
@@ -69,41 +81,104 @@ part-write-shape-end c = search needs
 write-shape-requires : tie.Need-write-shape-requires Inv-loop μ-loop
 write-shape-requires c κs = search needs
 
-next-place-requires : tie.Need-next-place-requires Inv-loop μ-loop
-next-place-requires c κs = search needs
+same-length-2 : tie.Need-same-length-2 Inv-loop μ-loop
+same-length-2 c = search needs
 
-mul-write-cell : tie.Need-mul-write-cell Inv-loop μ-loop
-mul-write-cell c = search needs
+returns-2 : tie.Need-returns-2 Inv-loop μ-loop
+returns-2 c =
+    let call = c .before .before .before .before .before .before .before .before .before .before in
+    let read = call .before .before in
+    let l = read .before .before .before .loop in
+    kept-full _ _ _ (l .from) (l .rows) (l .out) (l .inv) (read .before .before .loop-test .taken) (call .next-row-shape .result) (read .id-at .ensures) (call .before .entries-of .ensures) (call .next-row-shape .ensures) (c .before .before .before .before .before .before .before .before .if1 .left) (c .before .before .before .before .before .if2 .taken) (c .before .before .before .write-shape .ensures) (c .if3 .taken)
 
-element-copy-out-write-cell : tie.Need-element-copy-out-write-cell Inv-loop μ-loop
-element-copy-out-write-cell c = search needs
+add-from : tie.Need-add-from Inv-loop μ-loop
+add-from c =
+    let call = c .before .before .before .before .before .before .before .before .before .before in
+    let read = call .before .before in
+    let l = read .before .before .before .loop in
+    let start = read .before .before .before .before .before .before .before .before in
+    let f = kept-fits _ _ _ (l .from) (l .rows) (l .out) (l .inv) (read .before .before .loop-test .taken) (call .next-row-shape .result) (read .id-at .ensures) (call .before .entries-of .ensures) (call .next-row-shape .ensures) (c .before .before .before .before .before .before .before .before .if1 .left) (c .before .before .before .before .before .if2 .taken) (c .before .before .before .write-shape .ensures) (c .if3 .left) in
+    let k = start .good .1 .1 .0 in
+    record { fits = omega (arith, f, l .inv .long, k) }
 
-write-cell-requires : tie.Need-write-cell-requires Inv-loop μ-loop
-write-cell-requires c κs = search needs
+sub-if5 : tie.Need-sub-if5 Inv-loop μ-loop
+sub-if5 c = search needs
+
+same-length-3 : tie.Need-same-length-3 Inv-loop μ-loop
+same-length-3 c = search needs
+
+returns-3 : tie.Need-returns-3 Inv-loop μ-loop
+returns-3 c =
+    let call = c .before .before .before .before .before .before .before in
+    let read = call .before .before in
+    let l = read .before .before .before .loop in
+    let cells = call .next-row-shape .ok .1 .1 .1 .0 .1 .1 .1 .1 .1 .1 .1 .1 .1 .1 .1 .1 .0 in
+    node-full _ _ _ (l .from) (l .rows) (l .out) (l .inv) (read .before .before .loop-test .taken) (call .next-row-shape .result) (read .id-at .ensures) (call .before .entries-of .ensures) (call .next-row-shape .ensures) (c .before .before .before .before .before .if1 .left) (c .before .before .if2 .left) (cells-long (call .next-row-shape .result .shape .cells) (cells .1 .0 .1)) blankCell (c .before .if4 .taken) (c .if5 .taken)
+
+mul-cell-bytes : tie.Need-mul-cell-bytes Inv-loop μ-loop
+mul-cell-bytes c = search needs
+
+element-copy-out-cell-bytes : tie.Need-element-copy-out-cell-bytes Inv-loop μ-loop
+element-copy-out-cell-bytes c = search needs
+
+cell-bytes-requires : tie.Need-cell-bytes-requires Inv-loop μ-loop
+cell-bytes-requires c κs = search needs
+
+sub-write-bytes : tie.Need-sub-write-bytes Inv-loop μ-loop
+sub-write-bytes c = search needs
+
+part-write-bytes-start : tie.Need-part-write-bytes-start Inv-loop μ-loop
+part-write-bytes-start c = search needs
+
+part-write-bytes-end : tie.Need-part-write-bytes-end Inv-loop μ-loop
+part-write-bytes-end c = search needs
+
+slice-aggregate-write-bytes : tie.Need-slice-aggregate-write-bytes Inv-loop μ-loop
+slice-aggregate-write-bytes c = search needs
+
+write-bytes-requires : tie.Need-write-bytes-requires Inv-loop μ-loop
+write-bytes-requires c κs = search needs
 
 loop-less : tie.Need-loop-less Inv-loop μ-loop
 loop-less c = search needs
 
 loop-again : tie.Need-loop-again Inv-loop μ-loop
-loop-again c = search needs
+loop-again c =
+    let call = c .before .before .before .before .before .before .before .before .before .before in
+    let read = call .before .before in
+    let l = read .before .before .before .loop in
+    kept-goes _ _ _ (l .from) (l .rows) (l .out) (l .inv) (read .before .before .loop-test .taken) (call .next-row-shape .result) (read .id-at .ensures) (call .before .entries-of .ensures) (call .next-row-shape .ensures) (c .before .before .before .before .before .before .before .before .if1 .left) (c .before .before .before .before .before .if2 .taken) (c .before .before .before .write-shape .ensures) (c .if3 .left)
 
 loop-less-2 : tie.Need-loop-less-2 Inv-loop μ-loop
 loop-less-2 c = search needs
 
 loop-again-2 : tie.Need-loop-again-2 Inv-loop μ-loop
-loop-again-2 c = search needs
+loop-again-2 c =
+    let call = c .before .before .before .before .before .before .before .before .before .before .before .before .before .before in
+    let read = call .before .before in
+    let l = read .before .before .before .loop in
+    let cells = call .next-row-shape .ok .1 .1 .1 .0 .1 .1 .1 .1 .1 .1 .1 .1 .1 .1 .1 .1 .0 in
+    let room = c .before .before .before .before .before .before .before in
+    node-goes _ _ _ (l .from) (l .rows) (l .out) (l .inv) (read .before .before .loop-test .taken) (call .next-row-shape .result) (read .id-at .ensures) (call .before .entries-of .ensures) (call .next-row-shape .ensures) (room .before .before .before .before .before .if1 .left) (room .before .before .if2 .left) (cells-long (call .next-row-shape .result .shape .cells) (cells .1 .0 .1)) _ (room .before .if4 .taken) (room .if5 .left) (c .before .before .before .before .before .cell-bytes .ensures) (c .before .before .write-bytes .ensures)
 
 loop-less-3 : tie.Need-loop-less-3 Inv-loop μ-loop
 loop-less-3 c = search needs
 
 loop-again-3 : tie.Need-loop-again-3 Inv-loop μ-loop
-loop-again-3 c = search needs
+loop-again-3 c =
+    let call = c .before .before .before .before .before .before in
+    let read = call .before .before in
+    let l = read .before .before .before .loop in
+    let cells = call .next-row-shape .ok .1 .1 .1 .0 .1 .1 .1 .1 .1 .1 .1 .1 .1 .1 .1 .1 .0 in
+    node-absent _ _ _ (l .from) (l .rows) (l .out) (l .inv) (read .before .before .loop-test .taken) (call .next-row-shape .result) (read .id-at .ensures) (call .before .entries-of .ensures) (call .next-row-shape .ensures) (c .before .before .before .before .if1 .left) (c .before .if2 .left) (cells-long (call .next-row-shape .result .shape .cells) (cells .1 .0 .1)) (c .if4 .left)
 
-same-length-2 : tie.Need-same-length-2 Inv-loop μ-loop
-same-length-2 c = search needs
+same-length-4 : tie.Need-same-length-4 Inv-loop μ-loop
+same-length-4 c = search needs
 
-returns-2 : tie.Need-returns-2 Inv-loop μ-loop
-returns-2 c = search needs
+returns-4 : tie.Need-returns-4 Inv-loop μ-loop
+returns-4 c =
+    let l = c .before .loop in
+    shapes-end _ _ _ (l .from) (l .rows) (l .out) (l .inv) (c .loop-test .left)
 
 pub whole-history-shapes-spec : {M : Type 1} → statement M
 whole-history-shapes-spec =
@@ -130,15 +205,25 @@ whole-history-shapes-spec =
     part-write-shape-start
     part-write-shape-end
     write-shape-requires
-    next-place-requires
-    mul-write-cell
-    element-copy-out-write-cell
-    write-cell-requires
+    same-length-2
+    returns-2
+    add-from
+    sub-if5
+    same-length-3
+    returns-3
+    mul-cell-bytes
+    element-copy-out-cell-bytes
+    cell-bytes-requires
+    sub-write-bytes
+    part-write-bytes-start
+    part-write-bytes-end
+    slice-aggregate-write-bytes
+    write-bytes-requires
     loop-less
     loop-again
     loop-less-2
     loop-again-2
     loop-less-3
     loop-again-3
-    same-length-2
-    returns-2)
+    same-length-4
+    returns-4)

@@ -1,16 +1,21 @@
-use Prim.Native.Nat.{_*_, _≤_, _-_}
-use lib.ListN.{length}
-use mathlib.Core.Path.{_≡_}
+-- `whole_history::whole_history_text` meets its contract. The loop's invariant: what is left to do from here gives the whole.
+use Prim.Native.Nat.{_*_, _-_}
+use native.Mathlib.Omega.{arith}
 use borrow.Author.Needs.{needs}
+use lib.ListN.{length}
 use Rattle.record.specs.Record.{recordLength}
+use Rattle.whole_history.proofs.RunLaws.{place-kept, place-left}
+use Rattle.whole_history.proofs.TextTurn.{TextLeft, text-begins, text-ends, text-stops, text-fits, text-goes}
 use Rattle.whole_history.proofs.whole_history_text.Statement.{statement}
 use Rattle.whole_history.proofs.whole_history_text.Tie as tie
 
 abbrev Inv-loop : tie.InvT-loop
-Inv-loop records message renderer kept out₀ drawing shaper₀ state₀ from₀ rows₀ out shaper state from rows = (recordLength * rows ≤ length records) × (from ≤ length out) × (length out ≡ length out₀)
+Inv-loop records message renderer kept out₀ drawing shaper₀ state₀ from₀ rows₀ out shaper state from rows =
+    TextLeft records message renderer kept drawing out₀ shaper state from rows out
 
 abbrev μ-loop : tie.MeasureT-loop
-μ-loop records message renderer kept out₀ drawing shaper₀ state₀ from₀ rows₀ out shaper state from rows = length records - recordLength * rows
+μ-loop records message renderer kept out₀ drawing shaper₀ state₀ from₀ rows₀ out shaper state from rows =
+    length records - recordLength * rows
 
 renderer-of-requires : tie.Need-renderer-of-requires Inv-loop μ-loop
 renderer-of-requires c κs = search needs
@@ -19,7 +24,9 @@ begin-requires : tie.Need-begin-requires Inv-loop μ-loop
 begin-requires c κs = search needs
 
 loop-holds : tie.Need-loop-holds Inv-loop μ-loop
-loop-holds c = search needs
+loop-holds c =
+    let begun = c .before .before in
+    text-begins _ _ _ _ _ (begun .begin .result) (begun .begin .ensures) (begun .before .renderer-of .ensures)
 
 mul-loop : tie.Need-mul-loop Inv-loop μ-loop
 mul-loop c = search needs
@@ -70,22 +77,53 @@ same-length : tie.Need-same-length Inv-loop μ-loop
 same-length c = search needs
 
 returns : tie.Need-returns Inv-loop μ-loop
-returns c = search needs
+returns c =
+    let call = c .before .before .before .before in
+    let read = call .before .before .before .before in
+    let top = read .before .before .before in
+    let l = top .loop in
+    text-stops _ _ _ _ _ (l .from) (l .rows) (l .out) (l .inv) (read .before .before .loop-test .taken) (call .write-next-text .result) (read .id-at .ensures) (call .before .before .before .entries-of .ensures) (call .write-next-text .ensures) (c .if1 .taken)
 
-next-place-requires : tie.Need-next-place-requires Inv-loop μ-loop
-next-place-requires c κs = search needs
+add-from : tie.Need-add-from Inv-loop μ-loop
+add-from c =
+    let call = c .before .before .before .before .before .before .before .before in
+    let read = call .before .before .before .before in
+    let top = read .before .before .before in
+    let l = top .loop in
+    let f = text-fits _ _ _ _ _ (l .from) (l .rows) (l .out) (l .inv) (read .before .before .loop-test .taken) (call .write-next-text .result) (read .id-at .ensures) (call .before .before .before .entries-of .ensures) (call .write-next-text .ensures) (call .write-next-text .kept .1 .1 .1 .1 .1 .1 .1 .0) (c .before .before .before .before .if1 .left) in
+    let start = top .before .before .before .before .before .before .before .before in
+    let k = start .good .1 .1 .1 .1 .0 in
+    record { fits = omega (arith, f, l .inv .long, k) }
 
 loop-less : tie.Need-loop-less Inv-loop μ-loop
 loop-less c = search needs
 
 loop-again : tie.Need-loop-again Inv-loop μ-loop
-loop-again c = search needs
+loop-again c =
+    let call = c .before .before .before .before .before .before .before .before in
+    let read = call .before .before .before .before in
+    let top = read .before .before .before in
+    let l = top .loop in
+    text-goes _ _ _ _ _ (l .from) (l .rows) (l .out) (l .inv) (read .before .before .loop-test .taken) (call .write-next-text .result) (read .id-at .ensures) (call .before .before .before .entries-of .ensures) (call .write-next-text .ensures) _ (call .write-next-text .kept .1 .1 .1 .1 .1 .1 .1 .0) (c .before .before .before .before .if1 .left) (place-kept _ (l .from) _ (c .before .if2 .taken)) (omega arith)
+
+loop-less-2 : tie.Need-loop-less-2 Inv-loop μ-loop
+loop-less-2 c = search needs
+
+loop-again-2 : tie.Need-loop-again-2 Inv-loop μ-loop
+loop-again-2 c =
+    let call = c .before .before .before .before .before .before .before in
+    let read = call .before .before .before .before in
+    let top = read .before .before .before in
+    let l = top .loop in
+    text-goes _ _ _ _ _ (l .from) (l .rows) (l .out) (l .inv) (read .before .before .loop-test .taken) (call .write-next-text .result) (read .id-at .ensures) (call .before .before .before .entries-of .ensures) (call .write-next-text .ensures) _ (call .write-next-text .kept .1 .1 .1 .1 .1 .1 .1 .0) (c .before .before .before .if1 .left) (place-left _ (l .from) _ (c .if2 .left)) (omega arith)
 
 same-length-2 : tie.Need-same-length-2 Inv-loop μ-loop
 same-length-2 c = search needs
 
 returns-2 : tie.Need-returns-2 Inv-loop μ-loop
-returns-2 c = search needs
+returns-2 c =
+    let l = c .before .loop in
+    text-ends _ _ _ _ _ (l .from) (l .rows) (l .out) (l .inv) (c .loop-test .left)
 
 pub whole-history-text-spec : {M : Type 1} → statement M
 whole-history-text-spec =
@@ -113,8 +151,10 @@ whole-history-text-spec =
     write-next-text-requires
     same-length
     returns
-    next-place-requires
+    add-from
     loop-less
     loop-again
+    loop-less-2
+    loop-again-2
     same-length-2
     returns-2)

@@ -1,0 +1,5 @@
+pub mod RecordReads
+pub mod RunLaws
+pub mod ShapeLaws
+pub mod TextTurn
+pub mod ShapeTurn
