@@ -22,7 +22,7 @@ use Rattle.glyphs.specs.Joins.{over}
 use Rattle.glyphs.proofs.OverLaws.{length-over, part-room}
 use Rattle.record.specs.Record.{recordLength, idAt}
 use Rattle.record.specs.Promises.{entriesWith}
-use Rattle.record.proofs.RecordLaws.{listed-with, few-with}
+use Rattle.record.proofs.RecordLaws.{listed-with}
 use Rattle.steps.specs.declared.Progress.{Progress}
 use Rattle.steps.specs.Steps.{ProgressView, beginning}
 use Rattle.steps.specs.Promises.{progressViewOf}
@@ -52,8 +52,8 @@ module _ (s : Shaper) (kept : Bool) (from : ℕ) (out b : List ℕ) (g : RowAnsw
       none
 
   -- a record's entries are never too many
-  replied : rowReplyOf g ≡ row (viewOf s) (idAt b 0) false (entriesOf b)
-  replied = u .reply ∙ rw (i, e, few-with (entriesOf b) (entries-few b), listed-with (entriesOf b)) refl
+  replied : rowReplyOf g ≡ row (viewOf s) (idAt b 0) (entriesOf b)
+  replied = u .reply ∙ rw (i, e, listed-with (entriesOf b) (entries-few b)) refl
 
   step-is : shapeStep kept (stateOf s from out) b ≡ stepBy (rowReplyOf g)
   step-is = ap stepBy (sym replied)

@@ -1,7 +1,7 @@
 -- Laws of the loop of the text call: how it begins, a turn that a row is drawn in, and its ends.
 use Prim.Native.Nat.{ℕ, _+_, _*_, _-_, _<_, _≤_}
 use mathlib.Core.Path.{_≡_, refl, sym, ap, _∙_}
-use mathlib.Core.Bool.{Bool, false}
+use mathlib.Core.Bool.{Bool}
 use mathlib.Core.List.{List, _++_}
 use mathlib.Core.Option.{none, some}
 use native.Mathlib.Omega.{arith}
@@ -19,7 +19,7 @@ use Rattle.text.specs.Text.{TextReply, text}
 use Rattle.text.specs.Promises.{textReplyOf, Texts}
 use Rattle.record.specs.Record.{recordLength, idAt, markOf}
 use Rattle.record.specs.Promises.{entriesWith}
-use Rattle.record.proofs.RecordLaws.{listed-with, few-with}
+use Rattle.record.proofs.RecordLaws.{listed-with}
 use Rattle.steps.specs.declared.Progress.{Progress}
 use Rattle.steps.specs.Steps.{ProgressView, beginning}
 use Rattle.steps.specs.Promises.{progressViewOf}
@@ -36,11 +36,11 @@ stateOf s t from out = record { view = viewOf s; text = textViewOf t; from = fro
 module _ (s : Shaper) (t : TextState) (q : Renderer) (kept : Bool) (message : List ℕ) (from : ℕ) (out b : List ℕ) (g : TextAnswer) {n : ℕ} {es : Entries} {p : List ℕ}
     (i : n ≡ idAt b 0) (e : es ≡ entriesWith (entriesOf b)) (u : Texts s t q n es (markOf b) message (take (length out - from) (drop from out)) p g) where
   abbrev called : TextReply
-  called = text (viewOf s) (textViewOf t) q (idAt b 0) false (entriesOf b) (markOf b) message (drop from out)
+  called = text (viewOf s) (textViewOf t) q (idAt b 0) (entriesOf b) (markOf b) message (drop from out)
 
   -- a record's entries are never too many
   replied : textReplyOf g p ≡ called
-  replied = u .reply ∙ rw (i, e, part-lent out from, few-with (entriesOf b) (entries-few b), listed-with (entriesOf b)) refl
+  replied = u .reply ∙ rw (i, e, part-lent out from, listed-with (entriesOf b) (entries-few b)) refl
 
   refusal-is : called .refusal ≡ g .refusal
   refusal-is = sym (ap (λ (r : TextReply). r .refusal) replied)
@@ -51,7 +51,7 @@ module _ (s : Shaper) (t : TextState) (q : Renderer) (kept : Bool) (message : Li
   unwritten : (g .refusal ≡ 0 → ⊥) → p ≡ drop from out
   unwritten z =
       ap (λ (r : TextReply). r .output) replied
-      ∙ refused-output (viewOf s) (textViewOf t) q (idAt b 0) false (entriesOf b) (markOf b) message (drop from out) (λ y. z (sym refusal-is ∙ y))
+      ∙ refused-output (viewOf s) (textViewOf t) q (idAt b 0) (entriesOf b) (markOf b) message (drop from out) (λ y. z (sym refusal-is ∙ y))
 
   goes : g .refusal ≡ 0 → textStep q kept message (stateOf s t from out) b ≡ some (stateOf (g .shaper) (g .state) (placeAfter kept from (g .length)) (take from out ++ p))
   goes z =
@@ -60,7 +60,7 @@ module _ (s : Shaper) (t : TextState) (q : Renderer) (kept : Bool) (message : Li
 
   within : g .refusal ≡ 0 → g .length ≤ length p
   within z =
-      let w = accepted-output (viewOf s) (textViewOf t) q (idAt b 0) false (entriesOf b) (markOf b) message (drop from out) (refusal-is ∙ z) in
+      let w = accepted-output (viewOf s) (textViewOf t) q (idAt b 0) (entriesOf b) (markOf b) message (drop from out) (refusal-is ∙ z) in
       omega (arith, w .1, length-take (called .length) (called .output), ap (λ (r : TextReply). r .length) replied, ap (λ (r : TextReply). length (r .output)) replied)
 
 -- ---- the loop

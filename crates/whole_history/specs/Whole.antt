@@ -1,6 +1,6 @@
 -- Whole histories, as bench runs them: the text call or the row call on every record, one after the other.
 use Prim.Native.Nat.{ℕ, zero, suc, _+_, _/_, min}
-use mathlib.Core.Bool.{Bool, false, cond, _&&_}
+use mathlib.Core.Bool.{Bool, cond, _&&_}
 use mathlib.Core.List.{List, [], _∷_, _++_, map}
 use mathlib.Core.Option.{Option, none, some}
 use lib.Dec.{eqb, leb}
@@ -73,7 +73,7 @@ rowsOf step n (b ∷ bs) s = onward (step s b) (rowsOf step (suc n) bs) (record 
 -- the text call on a record, with the message in the place of the record's own; nothing where it is refused
 abbrev pub textStep : Renderer → Bool → List ℕ → State → List ℕ → Option State
 textStep q kept message s b =
-    let r : TextReply = text (s .view) (s .text) q (idAt b 0) false (entriesOf b) (markOf b) message (drop (s .from) (s .output)) in
+    let r : TextReply = text (s .view) (s .text) q (idAt b 0) (entriesOf b) (markOf b) message (drop (s .from) (s .output)) in
     cond (eqb (r .refusal) 0)
     (some (record { view = r .view; text = r .text; from = placeAfter kept (s .from) (r .length); output = take (s .from) (s .output) ++ r .output }))
     none
@@ -81,7 +81,7 @@ textStep q kept message s b =
 -- the row call on a record, and the bytes of its shape, or of its node's cell alone; nothing where it is refused or there is no room for them
 abbrev pub shapeStep : Bool → State → List ℕ → Option State
 shapeStep kept s b =
-    let r : RowReply = row (s .view) (idAt b 0) false (entriesOf b) in
+    let r : RowReply = row (s .view) (idAt b 0) (entriesOf b) in
     let bytes : List ℕ = cond kept (shapeBytes (r .shape)) (nodeBytes (r .shape)) in
     let room : List ℕ = drop (s .from) (s .output) in
     cond (eqb (r .refusal) 0 && leb (length bytes) (length room))

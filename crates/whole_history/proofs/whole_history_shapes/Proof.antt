@@ -24,7 +24,7 @@ begin-requires c κs = search needs
 loop-holds : tie.Need-loop-holds Inv-loop μ-loop
 loop-holds c =
     let begun = c .before .begin in
-    shapes-begin _ _ _ (begun .result) (begun .ensures)
+    shapes-begin _ _ _ (begun .result) (begun .ensures .reply)
 
 mul-loop : tie.Need-mul-loop Inv-loop μ-loop
 mul-loop c = search needs

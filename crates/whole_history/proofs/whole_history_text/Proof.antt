@@ -26,7 +26,7 @@ begin-requires c κs = search needs
 loop-holds : tie.Need-loop-holds Inv-loop μ-loop
 loop-holds c =
     let begun = c .before .before in
-    text-begins _ _ _ _ _ (begun .begin .result) (begun .begin .ensures) (begun .before .renderer-of .ensures)
+    text-begins _ _ _ _ _ (begun .begin .result) (begun .begin .ensures .reply) (begun .before .renderer-of .ensures)
 
 mul-loop : tie.Need-mul-loop Inv-loop μ-loop
 mul-loop c = search needs
