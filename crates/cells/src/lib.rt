@@ -1,13 +1,16 @@
 // The cells of a row shape, after graph_to_row_shape.rs.
 ghost use mathlib.Core.Path.{_≡_};
+ghost use mathlib.Core.Bool.{cond};
+ghost use Rattle.column.specs.Columns.{isParent, isAncestor};
 ghost use Rattle.cells.specs.Cells.{besideNode, padOf, nodeCell, linkCell, cellOf};
-ghost use Rattle.cells.specs.Inner.{plainCell, cellAt};
+ghost use Rattle.cells.specs.Inner.{plainCell, passedBy, cellWith};
 use column::Column;
 use links::AncestorColumnBounds;
 use links::Drawn;
 use links::Swap;
 use links::from_node;
 use links::is_at;
+use links::passing;
 use links::with_uprights;
 use render::Cell;
 use render::LinkLine;
@@ -62,7 +65,7 @@ fn link_cell(need_link_line: bool, marks: Marks) -> LinkLine
 }
 
 // The cell of a column that nothing of the row reaches: its line goes straight on, if it has one.
-fn plain_cell(need_link_line: bool, column: Column) -> Cell
+pub fn plain_cell(need_link_line: bool, column: Column) -> Cell
     ensures { λ r. ⌜ r ≡ plainCell «need_link_line» column ⌝ }
 {
     let own = Marks::none();
@@ -81,8 +84,32 @@ fn plain_cell(need_link_line: bool, column: Column) -> Cell
     }
 }
 
-// The cell of a column that the row reaches, from what it was before the entries and is after the swap.
-fn reached_cell(
+// The cell of a column, of those of a Parent column, of an Ancestor one and of any other.
+pub fn shown(column: Column, parent: Cell, ancestor: Cell, blank: Cell) -> Cell
+    ensures { λ r. ⌜ r ≡ cond (isParent column) parent (cond (isAncestor column) ancestor blank) ⌝ }
+{
+    if column.is_parent() {
+        return parent;
+    }
+    if column.is_ancestor() {
+        return ancestor;
+    }
+    blank
+}
+
+// A plain cell with the strokes that pass it.
+fn passed_cell(plain: Cell, own: LinkLine) -> Cell
+    ensures { λ r. ⌜ r ≡ passedBy plain own ⌝ }
+{
+    let upright = plain.link;
+    let mut out = plain;
+    out.link = upright.union(own);
+    out.link_from_node = own;
+    out
+}
+
+// The cell of a column in which something of the row ends, from what it was before the entries and is after the swap.
+fn ended_cell(
     need_link_line: bool,
     bounds: AncestorColumnBounds,
     swap: Swap,
@@ -110,7 +137,8 @@ fn reached_cell(
     }
 }
 
-// One column of the shape, from what it was before the entries and is after the swap; one that the row does not reach is plain.
+// One column of the shape, from its plain cell where nothing of the row ends in it, else from what it was before the entries and is after
+// the swap.
 pub fn cell(
     need_link_line: bool,
     bounds: AncestorColumnBounds,
@@ -119,11 +147,14 @@ pub fn cell(
     drawn: Drawn,
     before: Column,
     settled: Column,
+    plain: Cell,
 ) -> Cell
-    ensures { λ r. ⌜ r ≡ cellAt «need_link_line» bounds swap index drawn before settled ⌝ }
+    ensures { λ r. ⌜ r ≡ cellWith «need_link_line» bounds swap index drawn before settled plain ⌝ }
 {
-    if bounds.reaches(swap, index) {
-        return reached_cell(need_link_line, bounds, swap, index, drawn, before, settled);
+    let given_up = swap.given_up;
+    if (index != bounds.target) & (!drawn.is_drawn() & !is_at(given_up, index)) {
+        let own = passing(bounds, swap, index);
+        return passed_cell(plain, link_cell(need_link_line, own));
     }
-    plain_cell(need_link_line, settled)
+    ended_cell(need_link_line, bounds, swap, index, drawn, before, settled)
 }

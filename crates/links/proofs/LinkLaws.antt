@@ -2,13 +2,13 @@
 use Prim.Native.Nat.{ℕ, zero, suc, _+_, _≤_, _<_, min, max}
 use mathlib.Core.Path.{_≡_, refl, ap, _∙_, sym}
 use mathlib.Core.Bool.{Bool, true, false, cond, not, _&&_, _||_}
-use borrow.Author.Tests.{leb-false, ne-eqb, le-ltb}
+use borrow.Author.Tests.{ne-eqb, le-ltb}
 use mathlib.Core.List.{List, [], _∷_}
 use native.Mathlib.Numerals.{add-one}
 use native.Mathlib.Omega.{arith}
 use lib.ListN.{length, getD, take, drop, set, length-map, drop-of-length-le, List·getD-map}
 use lib.Seq.{drop-cons, getD-take}
-use lib.Dec.{ltb, leb, eqb}
+use lib.Dec.{ltb, eqb}
 use Rattle.render.specs.Link.{strokes}
 use Rattle.column.proofs.Front.{length-front, front-getD}
 use Rattle.render.specs.declared.render.Marks.{Marks}
@@ -18,7 +18,7 @@ use Rattle.links.specs.declared.ParentColumn.{ParentColumn}
 use Rattle.links.specs.declared.Swap.{Swap}
 use Rattle.links.specs.declared.AncestorColumnBounds.{AncestorColumnBounds}
 use Rattle.links.specs.Links.{isDrawn, isDirectlyDrawn, isIndirectlyDrawn, foundAs, isAt, leftmost, rightmost, boundsOf, passesSolid, passesDashed, fromNode}
-use Rattle.links.specs.Inner.{nobody, kindAt, kinds, reaching, reachStart, reachLast, reaches}
+use Rattle.links.specs.Inner.{nobody, kindAt, kinds, reaching, reachStart, reachLast}
 use Rattle.column.specs.declared.Found.{Found}
 use Rattle.column.specs.declared.Found.the-variants.{At, Nothing}
 use Rattle.column.specs.Columns.{orElse}
@@ -27,7 +27,7 @@ abbrev pub kindOf : ParentColumn → Drawn
 kindOf p = p .drawn
 
 -- a kind that is none is nobody
-not-drawn : (d : Drawn) → isDrawn d ≡ false → d ≡ Nobody
+pub not-drawn : (d : Drawn) → isDrawn d ≡ false → d ≡ Nobody
 not-drawn Nobody h = refl
 not-drawn Indirect h = let z : _≡_ {A = ℕ} 0 1 = cc in absurd (omega arith)
 not-drawn Direct h = let z : _≡_ {A = ℕ} 0 1 = cc in absurd (omega arith)
@@ -171,8 +171,8 @@ module _ (n : ℕ) (l : List ParentColumn) (i : ℕ) where
 
 -- ---- the marks of a cell
 
--- the cell of the node, of an entry or of the column given up, from what the functions found
-pub ending-done : (b : AncestorColumnBounds) (w : Swap) (i : ℕ) (d : Drawn) (m : Marks) (swapped gone drawn direct indirect : Bool)
+-- those that come from the node, from what the functions found
+pub marks-done : (b : AncestorColumnBounds) (w : Swap) (i : ℕ) (d : Drawn) (m : Marks) (swapped gone drawn direct indirect : Bool)
     → m ≡ strokes (passesSolid b w i) (passesDashed b w i) → swapped ≡ foundAs (λ p. true) (w .«given_up») → gone ≡ isAt (w .«given_up») i
     → drawn ≡ isDrawn d → direct ≡ isDirectlyDrawn d → indirect ≡ isIndirectlyDrawn d
     → record {
@@ -191,21 +191,11 @@ pub ending-done : (b : AncestorColumnBounds) (w : Swap) (i : ℕ) (d : Drawn) (m
       child = eqb i (b .target) && drawn;
     }
     ≡ fromNode b w i d
-ending-done b w i d m swapped gone drawn direct indirect p q r e f g = rw (p, q, r, e, f, g)
+marks-done b w i d m swapped gone drawn direct indirect p q r e f g = rw (p, q, r, e, f, g)
 
 none : (b : Bool) → (b && false) ≡ false
 none true = refl
 none false = refl
-
--- what the test says: the cell is not the node's, nobody draws in it, and it was not given up
-pub nothing-ends : (i c : ℕ) (drawn gone : Bool) → (not (eqb i c) && (not drawn && not gone)) ≡ true → (eqb i c ≡ false) × (drawn ≡ false) × (gone ≡ false)
-nothing-ends i c drawn gone = go (eqb i c) drawn gone
-  where
-    go : (x y z : Bool) → (not x && (not y && not z)) ≡ true → (x ≡ false) × (y ≡ false) × (z ≡ false)
-    go false false false h = (refl, refl, refl)
-    go true y z h = let t : _≡_ {A = ℕ} 0 1 = cc in absurd (omega arith)
-    go false true z h = let t : _≡_ {A = ℕ} 0 1 = cc in absurd (omega arith)
-    go false false true h = let t : _≡_ {A = ℕ} 0 1 = cc in absurd (omega arith)
 
 -- a cell in which nothing of the row ends has the strokes that pass it
 pub passing-is : (b : AncestorColumnBounds) (w : Swap) (i : ℕ) (d : Drawn) → eqb i (b .target) ≡ false → isDrawn d ≡ false → isAt (w .«given_up») i ≡ false
@@ -308,11 +298,8 @@ module _ (ds : List Drawn) (c : ℕ) (w : Swap) (i : ℕ) where
         no-dashed = rw (le-ltb i (rightmost isDirectlyDrawn ds 0 c) (omega (arith, rightmost-direct ds 0 c)), le-ltb i (rightmost isDrawn ds 0 c) (omega arith), u .1, none (ltb (leftmost isDirectlyDrawn ds 0 c) i), none (ltb (leftmost isDrawn ds 0 c) i), none (ltb c i));
       }
 
--- a column that the row does not reach
-pub unreached : (b : AncestorColumnBounds) (w : Swap) (ds : List Drawn) (c i : ℕ) → b ≡ boundsOf ds c → reaches b w i ≡ false → Unreached b w ds i
-unreached b w ds c i e h = rw e (go (leb (reachStart (boundsOf ds c) w) i) refl (leb i (reachLast (boundsOf ds c) w)) refl (rw e at h))
-  where
-    go : (x : Bool) → leb (reachStart (boundsOf ds c) w) i ≡ x → (y : Bool) → leb i (reachLast (boundsOf ds c) w) ≡ y → (x && y) ≡ false → Unreached (boundsOf ds c) w ds i
-    go false p y q z = unreached-left ds c w i (leb-false _ _ p)
-    go true p false q z = unreached-right ds c w i (leb-false _ _ q)
-    go true p true q z = let t : _≡_ {A = ℕ} 0 1 = cc in absurd (omega arith)
+pub unreached-before : (b : AncestorColumnBounds) (w : Swap) (ds : List Drawn) (c i : ℕ) → b ≡ boundsOf ds c → i < reachStart b w → Unreached b w ds i
+unreached-before b w ds c i e h = rw e (unreached-left ds c w i (rw e at h))
+
+pub unreached-after : (b : AncestorColumnBounds) (w : Swap) (ds : List Drawn) (c i : ℕ) → b ≡ boundsOf ds c → reachLast b w < i → Unreached b w ds i
+unreached-after b w ds c i e h = rw e (unreached-right ds c w i (rw e at h))

@@ -1,8 +1,7 @@
 -- What the inner functions give for a link line, on arrays and counts: steps on the way to the definitions of Links.
 use Prim.Native.Nat.{ℕ, min, max}
-use mathlib.Core.Bool.{Bool, cond, _&&_}
+use mathlib.Core.Bool.{cond}
 use mathlib.Core.List.{List, map}
-use lib.Dec.{leb}
 use lib.ListN.{getD, take}
 use Rattle.column.specs.Columns.{orElse}
 use Rattle.render.specs.declared.render.Ancestor.{Ancestor as Entry}
@@ -48,7 +47,3 @@ reachStart b w = min (orElse (w .«given_up») (b .«min_ancestor»)) (b .«min_
 -- the last one
 abbrev pub reachLast : AncestorColumnBounds → Swap → ℕ
 reachLast b w = max (orElse (w .«given_up») (b .«max_ancestor»)) (b .«max_ancestor»)
-
--- whether they reach column i
-abbrev pub reaches : AncestorColumnBounds → Swap → ℕ → Bool
-reaches b w i = leb (reachStart b w) i && leb i (reachLast b w)

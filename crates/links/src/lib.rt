@@ -1,11 +1,11 @@
 // The marks of a row's link line, after graph_to_row_shape.rs.
 ghost use mathlib.Core.Path.{_≡_};
 ghost use mathlib.Core.Bool.{true, cond};
-ghost use Prim.Native.Nat.{min, max};
+ghost use Prim.Native.Nat.{_+_, min, max};
 ghost use lib.Dec.{ltb};
 ghost use Rattle.render.specs.Link.{strokes};
 ghost use Rattle.links.specs.Links.{drawnBy, isDrawn, isDirectlyDrawn, isIndirectlyDrawn, isAnonymouslyDrawn, foundAs, isAt, boundsOf, passesSolid, passesDashed, fromNode, withUprights, linked};
-ghost use Rattle.links.specs.Inner.{nobody, parentOf, kinds, reaching as reachingOf, reachStart, reachLast, reaches};
+ghost use Rattle.links.specs.Inner.{nobody, parentOf, kinds, reaching as reachingOf, reachStart, reachLast};
 use column::COLUMN_LIMIT;
 use column::Column;
 use column::Found;
@@ -192,7 +192,7 @@ impl AncestorColumnBounds {
     }
 
     // The first column that the entries or the swap reach.
-    fn reach_start(self, swap: Swap) -> usize
+    pub fn reach_start(self, swap: Swap) -> usize
         ensures { λ r. ⌜ r ≡ reachStart self swap ⌝ }
     {
         let first = self.min_ancestor;
@@ -215,11 +215,15 @@ impl AncestorColumnBounds {
         }
     }
 
-    // Whether they reach a column.
-    pub fn reaches(self, swap: Swap, index: usize) -> bool
-        ensures { λ r. ⌜ r ≡ reaches self swap index ⌝ }
+    // Where the columns end that they reach, of the first `width` ones.
+    pub fn reach_end(self, swap: Swap, width: usize) -> usize
+        ensures { λ r. ⌜ r ≡ min (reachLast self swap + 1) width ⌝ }
     {
-        (self.reach_start(swap) <= index) & (index <= self.reach_last(swap))
+        let last = self.reach_last(swap);
+        if last < width {
+            return last + 1;
+        }
+        width
     }
 
     // Whether the row has a link line: an entry's column, or the one given up, is not the node's own.
@@ -261,8 +265,9 @@ fn is_before(index: usize, found: Found) -> bool
     }
 }
 
-// The strokes that pass a cell, solid and dashed, and no other mark (`horizontal_line`).
-fn passing(bounds: AncestorColumnBounds, swap: Swap, index: usize) -> Marks
+// The strokes that pass a cell, solid and dashed, and no other mark (`horizontal_line`): all that comes from the node where nothing of the
+// row ends.
+pub fn passing(bounds: AncestorColumnBounds, swap: Swap, index: usize) -> Marks
     ensures { λ r. ⌜ r ≡ strokes (passesSolid bounds swap index) (passesDashed bounds swap index) ⌝ }
 {
     let given_up = swap.given_up;
@@ -276,9 +281,8 @@ fn passing(bounds: AncestorColumnBounds, swap: Swap, index: usize) -> Marks
     out
 }
 
-// The marks that come from the node in a cell in which something of the row ends: the node's, one in which an entry draws, or the one
-// given up.
-fn ending(bounds: AncestorColumnBounds, swap: Swap, index: usize, drawn: Drawn) -> Marks
+// The marks that come from the node in one cell (`link_line_from_node`).
+pub fn from_node(bounds: AncestorColumnBounds, swap: Swap, index: usize, drawn: Drawn) -> Marks
     ensures { λ r. ⌜ r ≡ fromNode bounds swap index drawn ⌝ }
 {
     let target = bounds.target;
@@ -307,17 +311,6 @@ fn ending(bounds: AncestorColumnBounds, swap: Swap, index: usize, drawn: Drawn) 
         right_merge_ancestor: here & (!right & (target < bounds.max_ancestor)),
         child: here & drawn.is_drawn(),
     }
-}
-
-// The marks that come from the node in one cell (`link_line_from_node`); where nothing of the row ends, the strokes that pass.
-pub fn from_node(bounds: AncestorColumnBounds, swap: Swap, index: usize, drawn: Drawn) -> Marks
-    ensures { λ r. ⌜ r ≡ fromNode bounds swap index drawn ⌝ }
-{
-    let given_up = swap.given_up;
-    if (index != bounds.target) & (!drawn.is_drawn() & !is_at(given_up, index)) {
-        return passing(bounds, swap, index);
-    }
-    ending(bounds, swap, index, drawn)
 }
 
 // Those marks with the lines that go straight on: the column's before the entries, but not where it was given up (`link_line`).

@@ -6,14 +6,15 @@ use mathlib.Core.List.{List, [], _∷_, _++_}
 use native.Mathlib.Nat.{not-suc-le-zero, le-of-suc-le-suc}
 use native.Mathlib.Omega.{arith}
 use lib.Dec.{ltb, eqb}
-use lib.ListN.{length, getD, drop, set, replicate, length-set, length-replicate}
-use borrow.Author.Tests.{lt-ltb, le-ltb}
+use lib.ListN.{length, getD, drop, set, replicate, length-append, length-set, length-replicate}
+use lib.Seq.{getD-set-same, getD-set-other}
+use borrow.Author.Tests.{lt-ltb, le-ltb, ltb-true, ltb-false, eqb-true, eqb-false}
 use Rattle.column.specs.declared.Column.{Column}
-use Rattle.column.specs.declared.Column.the-variants.{Empty}
+use Rattle.column.specs.declared.Column.the-variants.{Empty, Ancestor, Parent}
 use Rattle.column.specs.declared.Found.{Found}
 use Rattle.column.specs.declared.Found.the-variants.{At, Nothing}
 use Rattle.column.specs.declared.Slot.{Slot}
-use Rattle.column.specs.Columns.{columnLimit, isParent, find, orElse, at, put, live, emptySlot}
+use Rattle.column.specs.Columns.{columnLimit, isParent, isAncestor, find, orElse, at, put, live, emptySlot}
 use Rattle.column.proofs.Front.{length-front, front-clamp}
 use Rattle.column.proofs.Laws.{columnOf as slotColumn, live-at, first-below}
 use Rattle.column.proofs.Positions.{length-put}
@@ -32,8 +33,8 @@ use Rattle.links.specs.declared.ParentColumn.{ParentColumn}
 use Rattle.links.specs.declared.Swap.{Swap}
 use Rattle.links.specs.declared.AncestorColumnBounds.{AncestorColumnBounds}
 use Rattle.links.specs.Links.{boundsOf, linked}
-use Rattle.links.specs.Inner.{nobody, kindAt, kinds}
-use Rattle.links.proofs.LinkLaws.{kinds-at}
+use Rattle.links.specs.Inner.{nobody, kindAt, kinds, reachStart, reachLast}
+use Rattle.links.proofs.LinkLaws.{kinds-at, Unreached, unreached-before, unreached-after}
 use Rattle.shaper.specs.declared.Shaper.{Shaper}
 use Rattle.shaper.specs.Shaper.{View, viewOf}
 use Rattle.shaper.specs.NodeColumn.{unallocated, nodeColumn, headAt, head, Finds}
@@ -44,8 +45,8 @@ use Rattle.placing.specs.Inner.{columnBefore, Ends}
 use Rattle.placing.proofs.PlacingLaws.{walk-more, opened-long, opened-is, before-is, Going, Gone, going-start, going-end, given-next, given-end}
 use Rattle.placing.proofs.SwapLaws.{other-inside, width-is, up-is, moved, moved-is, redrawn, redrawn-long, redrawn-is, kind-kept}
 use Rattle.cells.specs.Cells.{cellsFrom, cellOf}
-use Rattle.cells.specs.Inner.{cellAt}
-use Rattle.cells.proofs.CellLaws.{cell-is, cells-start, cells-next, cells-same}
+use Rattle.cells.specs.Inner.{plainCell, cellWith}
+use Rattle.cells.proofs.CellLaws.{Keeps, cell-is, plain-cell-is, plain-shown, length-cells, cells-start, cells-next, cells-at, cells-past, cells-are}
 use Rattle.row_shape.specs.declared.RowAnswer.{RowAnswer}
 use Rattle.row_shape.specs.Row.{separator, shapeAt, noShape, RowReply, rowChecks, rowAfter, rowAnswer, row}
 use Rattle.row_shape.specs.Inner.{separatorWith}
@@ -227,15 +228,83 @@ accept v n es c cs e b few h =
 reply-same : (r : ℕ) (a b : RowShape) (x y : View) → a ≡ b → x ≡ y → _≡_ {A = RowReply} (record { refusal = r; shape = a; view = x }) (record { refusal = r; shape = b; view = y })
 reply-same r a b x y e f = ap₂ (λ (g : RowShape) (u : View). record { refusal = r; shape = g; view = u }) e f
 
--- the cell that the call stores for column i
-abbrev pub storedCell : Bool → AncestorColumnBounds → Swap → List ParentColumn → List Slot → List Slot → ℕ → ℕ → ℕ → Cell
-storedCell need r w parents old slots m c i =
-    cellAt need r w i (kindAt parents i) (columnBefore (getD old i emptySlot) i m c) ((getD slots i emptySlot) .column)
+-- ---- the loops over the cells
+module _ (need : Bool) (r : AncestorColumnBounds) (w : Swap) (parents : List ParentColumn) (old slots : List Slot) (m c count : ℕ) where
+  -- the plain cell of column i
+  abbrev pub plainAt : ℕ → Cell
+  plainAt i = plainCell need ((getD slots i emptySlot) .column)
 
--- the cells once k are stored
-abbrev pub storedCells : Bool → AncestorColumnBounds → Swap → List ParentColumn → List Slot → List Slot → ℕ → ℕ → ℕ → List Cell
-storedCells need r w parents old slots m c k =
-    cellsFrom (storedCell need r w parents old slots m c) 0 k ++ replicate (columnLimit - k) blankCell
+  -- the cell that is drawn over it
+  abbrev pub drawnAt : ℕ → Cell
+  drawnAt i = cellWith need r w i (kindAt parents i) (columnBefore (getD old i emptySlot) i m c) ((getD slots i emptySlot) .column) (plainAt i)
+
+  -- what the first loop keeps: the first p cells are plain, the others blank
+  pub record Plain (p : ℕ) (cells : List Cell) : Type 0 where
+    pub upto : p ≤ count
+    pub fits : count ≤ columnLimit
+    pub stored : cells ≡ cellsFrom plainAt 0 p ++ replicate (columnLimit - p) blankCell
+
+  pub plain-start : (cells : List Cell) (blank : Cell) → blank ≡ blankCell → count ≤ columnLimit → cells ≡ replicate columnLimit blank → Plain 0 cells
+  plain-start cells blank e h f = record { upto = omega arith; fits = h; stored = cells-start plainAt blankCell columnLimit cells (f ∙ rw e) }
+
+  pub plain-next : (p : ℕ) (cells : List Cell) (a parent ancestor blank : Cell) → Plain p cells → p < count → parent ≡ plainCell need (Parent 0) → ancestor ≡ plainCell need (Ancestor 0)
+      → blank ≡ blankCell → a ≡ cond (isParent ((getD slots p emptySlot) .column)) parent (cond (isAncestor ((getD slots p emptySlot) .column)) ancestor blank) → Plain (p + 1) (set cells p a)
+  plain-next p cells a parent ancestor blank d h e f g q =
+      record {
+        upto = omega arith;
+        fits = d .fits;
+        stored = cells-next plainAt blankCell columnLimit p cells a (omega (arith, d .fits)) (q ∙ rw (e, f, g) (plain-shown need ((getD slots p emptySlot) .column))) (d .stored);
+      }
+
+  -- what the second keeps: the cells from the first that the row reaches up to k are drawn, the others plain
+  pub record Drawing (k : ℕ) (cells : List Cell) : Type 0 where
+    pub from : reachStart r w ≤ k
+    pub fits : count ≤ columnLimit
+    pub long : length cells ≡ columnLimit
+    pub drawn : (j : ℕ) → reachStart r w ≤ j → j < k → j < count → getD cells j blankCell ≡ drawnAt j
+    pub before : (j : ℕ) → j < reachStart r w → j < count → getD cells j blankCell ≡ plainAt j
+    pub behind : (j : ℕ) → k ≤ j → j < count → getD cells j blankCell ≡ plainAt j
+    pub past : (j : ℕ) → count ≤ j → getD cells j blankCell ≡ blankCell
+
+  pub drawing-start : (p k : ℕ) (cells : List Cell) → k ≡ reachStart r w → count ≤ p → Plain p cells → Drawing k cells
+  drawing-start p k cells e h d =
+      let q : p ≡ count = omega (arith, d .upto) in
+      let s : cells ≡ cellsFrom plainAt 0 count ++ replicate (columnLimit - count) blankCell = d .stored ∙ rw q in
+      let all : (j : ℕ) → j < count → getD cells j blankCell ≡ plainAt j = λ j k. ap (λ (l : List Cell). getD l j blankCell) s ∙ cells-at plainAt blankCell count (replicate (columnLimit - count) blankCell) j k in
+      record {
+        from = omega (arith, e);
+        fits = d .fits;
+        long = ap length s ∙ rw (length-append, length-cells plainAt blankCell 0 count, length-replicate) (omega (arith, d .fits));
+        drawn = λ j a b g. absurd (omega (arith, e));
+        before = λ j a g. all j g;
+        behind = λ j a g. all j g;
+        past = λ j g. ap (λ (l : List Cell). getD l j blankCell) s ∙ cells-past plainAt blankCell 0 count (columnLimit - count) j g;
+      }
+
+  pub drawing-next : (k : ℕ) (cells : List Cell) (a : Cell) (x : Column) → Drawing k cells → k < count
+      → a ≡ cellWith need r w k (kindAt parents k) x ((getD slots k emptySlot) .column) (getD cells k blankCell) → x ≡ columnBefore (getD old k emptySlot) k m c
+      → Drawing (k + 1) (set cells k a)
+  drawing-next k cells a x d l e f =
+      record {
+        from = omega (arith, d .from);
+        fits = d .fits;
+        long = length-set cells k a ∙ d .long;
+        drawn = λ j y z g. there j y z g (eqb j k) refl;
+        before = λ j y g. getD-set-other cells k j a blankCell (λ z. omega (arith, z)) ∙ d .before j y g;
+        behind = λ j y g. getD-set-other cells k j a blankCell (λ z. omega (arith, z)) ∙ d .behind j (omega arith) g;
+        past = λ j g. getD-set-other cells k j a blankCell (λ z. omega (arith, z)) ∙ d .past j g;
+      }
+    where
+      here : a ≡ drawnAt k
+      here = e ∙ rw (f, d .behind k (omega arith) l)
+
+      there : (j : ℕ) → reachStart r w ≤ j → j < k + 1 → j < count → (t : Bool) → eqb j k ≡ t → getD (set cells k a) j blankCell ≡ drawnAt j
+      there j y z g true q =
+          let w : j ≡ k = eqb-true j k q in
+          rw w (getD-set-same cells k a blankCell (rw (d .long) (omega (arith, d .fits))) ∙ here)
+      there j y z g false q =
+          let w : j ≡ k → ⊥ = eqb-false j k q in
+          getD-set-other cells k j a blankCell w ∙ d .drawn j y (omega (arith, w)) g
 
 module _ (s : Shaper) (n : ℕ) (es : Entries) (existing : Found) (c m : ℕ) (b : Begun s n es existing c m) (walked : List Slot) (count : ℕ) (met : List ParentColumn)
     (last : ℕ) (said : Bool) (g : Gone (put (live m (s .slots)) c Empty) c (given es) walked count met last said) where
@@ -314,18 +383,26 @@ module _ (s : Shaper) (n : ℕ) (es : Entries) (existing : Found) (c m : ℕ) (b
         target-is : r .target ≡ c
         target-is = ap (λ (x : AncestorColumnBounds). x .target) r-is
 
-        -- each cell that is stored is the definition's
-        cell-at : (need : Bool) (i : ℕ) → i < count → storedCell need r swap parents (s .slots) slots m c i ≡ cellOf need r swap i (draws i) (at bs i) (at settled i)
-        cell-at need i h =
-            let k : i < columnLimit = omega (arith, g .fits) in
-            let old : columnBefore (getD (s .slots) i emptySlot) i m c ≡ at bs i =
-            before-is (s .slots) m c (b .long) (few-columns s n es existing c m b) (b .within) (near s n es existing c m b) i k in
-            let new : (getD slots i emptySlot) .column ≡ at settled i =
-            sym (live-at count slots i h (rw slots-long k)) ∙ ap (λ (x : List Column). at x i) settled-is in
-            rw (old, new, kinds-is i)
-            (cell-is need r swap (kinds count parents) c i (draws i) (at bs i) (at settled i) r-is
-            (kinds-at count parents i h (rw parents-long k) ∙ kinds-is i)
-            (λ d e q. kind-kept i c rs bs d (rw target-is at e) (rw f-up at q)))
+        -- a column in which nothing of the row ends is kept
+        keeps : (i : ℕ) → Keeps r swap i (draws i) (at bs i) (at settled i)
+        keeps i d e q = kind-kept i c rs bs d (rw target-is at e) (rw f-up at q)
+
+        old-at : (i : ℕ) → i < count → columnBefore (getD (s .slots) i emptySlot) i m c ≡ at bs i
+        old-at i h = before-is (s .slots) m c (b .long) (few-columns s n es existing c m b) (b .within) (near s n es existing c m b) i (omega (arith, g .fits))
+
+        new-at : (i : ℕ) → i < count → (getD slots i emptySlot) .column ≡ at settled i
+        new-at i h = sym (live-at count slots i h (rw slots-long (omega (arith, g .fits)))) ∙ ap (λ (x : List Column). at x i) settled-is
+
+        -- each cell that is drawn, and each plain one that the row does not reach, is the definition's
+        drawn-is : (need : Bool) (i : ℕ) → i < count → drawnAt need r swap parents (s .slots) slots m c count i ≡ cellOf need r swap i (draws i) (at bs i) (at settled i)
+        drawn-is need i h = rw (old-at i h, new-at i h, kinds-is i) (cell-is need r swap i (draws i) (at bs i) (at settled i) (keeps i))
+
+        plain-is : (need : Bool) (i : ℕ) → i < count → Unreached r swap (kinds count parents) i
+            → plainAt need r swap parents (s .slots) slots m c count i ≡ cellOf need r swap i (draws i) (at bs i) (at settled i)
+        plain-is need i h x =
+            rw (new-at i h)
+            (plain-cell-is need r swap i (draws i) (at bs i) (at settled i) (keeps i) (kinds count parents) x
+            (kinds-at count parents i h (rw parents-long (omega (arith, g .fits))) ∙ kinds-is i))
 
         bounds-as : r ≡ boundsOf (cellsFrom draws 0 (length ws)) c
         bounds-as =
@@ -333,17 +410,30 @@ module _ (s : Shaper) (n : ℕ) (es : Entries) (existing : Found) (c m : ℕ) (b
             ∙ ap (λ (x : List Drawn). boundsOf x c) (kinds-are count parents draws (rw parents-long (g .fits)) kinds-is)
             ∙ ap (λ (x : ℕ). boundsOf (cellsFrom draws 0 x) c) width-as
 
-        module _ (need : Bool) (need-is : need ≡ linked r swap) (cells : List Cell) (k : ℕ) (k-is : k ≡ count) (cells-are : cells ≡ storedCells need r swap parents (s .slots) slots m c k) where
+        module _ (need : Bool) (need-is : need ≡ linked r swap) (cells : List Cell) (k : ℕ) (k-end : min (reachLast r swap + 1) count ≤ k)
+            (d : Drawing need r swap parents (s .slots) slots m c count k cells) where
           abbrev p : Placed
           p = placeAt c rs bs
 
-          cells-as : cells ≡ cellsFrom (λ i. cellOf need r swap i (draws i) (at bs i) (at settled i)) 0 (length ws) ++ replicate (columnLimit - length ws) blankCell
+          abbrev wanted : ℕ → Cell
+          wanted i = cellOf need r swap i (draws i) (at bs i) (at settled i)
+
+          cell-at : (i : ℕ) → i < count → getD cells i blankCell ≡ wanted i
+          cell-at i h = go (ltb i (reachStart r swap)) refl (ltb i k) refl
+            where
+              go : (x : Bool) → ltb i (reachStart r swap) ≡ x → (y : Bool) → ltb i k ≡ y → getD cells i blankCell ≡ wanted i
+              go true q y z =
+                  let l : i < reachStart r swap = ltb-true i (reachStart r swap) q in
+                  d .before i l h ∙ plain-is need i h (unreached-before r swap (kinds count parents) c i r-is l)
+              go false q true z = d .drawn i (ltb-false i (reachStart r swap) q) (ltb-true i k z) h ∙ drawn-is need i h
+              go false q false z =
+                  let l : k ≤ i = ltb-false i k z in
+                  d .behind i l h ∙ plain-is need i h (unreached-after r swap (kinds count parents) c i r-is (omega arith))
+
+          cells-as : cells ≡ cellsFrom wanted 0 (length ws) ++ replicate (columnLimit - length ws) blankCell
           cells-as =
-              cells-are
-              ∙ ap (λ (x : ℕ). storedCells need r swap parents (s .slots) slots m c x) k-is
-              ∙ ap (λ (x : List Cell). x ++ replicate (columnLimit - count) blankCell)
-              (cells-same (storedCell need r swap parents (s .slots) slots m c) (λ i. cellOf need r swap i (draws i) (at bs i) (at settled i)) count (cell-at need) 0 count (omega arith))
-              ∙ ap (λ (x : ℕ). cellsFrom (λ i. cellOf need r swap i (draws i) (at bs i) (at settled i)) 0 x ++ replicate (columnLimit - x) blankCell) width-as
+              cells-are wanted blankCell cells 0 count (columnLimit - count) (d .long ∙ omega (arith, g .fits)) (λ j h. cell-at j h ∙ ap wanted (omega arith)) (d .past)
+              ∙ ap (λ (x : ℕ). cellsFrom wanted 0 x ++ replicate (columnLimit - x) blankCell) width-as
 
           head-is : (hd : Bool) → hd ≡ headAt existing ((getD (s .slots) c emptySlot) .column) → hd ≡ head existing (viewOf s .columns)
           head-is hd e = head-held (s .slots) (s .count) existing c _ hd (b .long) (b .within) there refl e
@@ -392,34 +482,3 @@ module _ (s : Shaper) (n : ℕ) (es : Entries) (existing : Found) (c m : ℕ) (b
                   rest = λ z. h .rest;
                   options = refl;
                 }
-
--- ---- the loop over the cells
-
--- what it keeps once k of count cells are stored
-pub record Drawing (need : Bool) (r : AncestorColumnBounds) (w : Swap) (parents : List ParentColumn) (old slots : List Slot) (m c count : ℕ) (cells : List Cell) (k : ℕ) : Type 0 where
-  pub upto : k ≤ count
-  pub fits : count ≤ columnLimit
-  pub long : length cells ≡ columnLimit
-  pub stored : cells ≡ storedCells need r w parents old slots m c k
-
-module _ (need : Bool) (r : AncestorColumnBounds) (w : Swap) (parents : List ParentColumn) (old slots : List Slot) (m c count : ℕ) (cells : List Cell) where
-  pub drawing-start : (blank : Cell) → blank ≡ blankCell → count ≤ columnLimit → cells ≡ replicate columnLimit blank → Drawing need r w parents old slots m c count cells 0
-  drawing-start blank e h f =
-      let q : cells ≡ replicate columnLimit blankCell = f ∙ rw e in
-      record {
-        upto = omega arith;
-        fits = h;
-        long = ap length q ∙ length-replicate columnLimit blankCell;
-        stored = cells-start (storedCell need r w parents old slots m c) blankCell columnLimit cells q;
-      }
-
-  pub drawing-next : (k : ℕ) (a : Cell) (x : Column) → Drawing need r w parents old slots m c count cells k → k < count
-      → a ≡ cellAt need r w k (kindAt parents k) x ((getD slots k emptySlot) .column) → x ≡ columnBefore (getD old k emptySlot) k m c
-      → Drawing need r w parents old slots m c count (set cells k a) (k + 1)
-  drawing-next k a x d h e f =
-      record {
-        upto = omega arith;
-        fits = d .fits;
-        long = length-set cells k a ∙ d .long;
-        stored = cells-next (storedCell need r w parents old slots m c) blankCell columnLimit k cells a (omega (arith, d .fits)) (e ∙ rw f) (d .stored);
-      }

@@ -4,7 +4,10 @@ ghost use Rattle.row_shape.specs.Row.{noShape};
 ghost use Rattle.row_shape.specs.Inner.{separatorWith};
 ghost use Rattle.row_shape.specs.Promises.{Rows};
 use cells::cell;
+use cells::plain_cell;
+use cells::shown;
 use column::COLUMN_LIMIT;
+use column::Column;
 use column::Found;
 use column::Slot;
 use links::AncestorColumnBounds;
@@ -144,16 +147,28 @@ pub fn next_row_shape(shaper: Shaper, node: u32, entries: Entries) -> RowAnswer
     parents[column] = drawn_in;
     let bounds = AncestorColumnBounds::new(parents, count, column);
     let need_link_line = bounds.need_link_line(swap);
+    // each cell as if nothing of the row reached it, then those between the row's outermost columns with their marks
+    let parent = plain_cell(need_link_line, Column::Parent(0));
+    let ancestor = plain_cell(need_link_line, Column::Ancestor(0));
     let blank = Cell::blank();
     let mut cells = [blank; COLUMN_LIMIT];
-    let mut k: usize = 0;
-    while k < count {
+    let mut p: usize = 0;
+    while p < count {
+        let shown_slot = slots[p];
+        let shown_column = shown_slot.column;
+        cells[p] = shown(shown_column, parent, ancestor, blank);
+        p += 1;
+    }
+    let end = bounds.reach_end(swap, count);
+    let mut k = bounds.reach_start(swap);
+    while k < end {
         let bare = old_slots[k];
         let bare_column = placing::column_before(bare, k, live, column);
         let settled = slots[k];
         let settled_column = settled.column;
-        let parent = parents[k];
-        let drawn = parent.drawn;
+        let met = parents[k];
+        let drawn = met.drawn;
+        let plain = cells[k];
         cells[k] = cell(
             need_link_line,
             bounds,
@@ -162,6 +177,7 @@ pub fn next_row_shape(shaper: Shaper, node: u32, entries: Entries) -> RowAnswer
             drawn,
             bare_column,
             settled_column,
+            plain,
         );
         k += 1;
     }

@@ -1,33 +1,46 @@
--- One column of the shape: plain where the row does not reach it.
+-- One column of the shape: its plain cell with the strokes that pass, or the one in which something of the row ends.
 use borrow.Author.Needs.{needs}
 use Rattle.cells.proofs.cell.Statement.{statement}
 use Rattle.cells.proofs.cell.Tie as tie
-use mathlib.Core.Path.{sym, _∙_}
-use Rattle.links.specs.Inner.{reaches}
-use Rattle.links.proofs.LinkLaws.{chosen, not-chosen}
-use Rattle.cells.specs.Cells.{cellOf}
-use Rattle.cells.specs.Inner.{plainCell}
+use Rattle.cells.proofs.CellLaws.{cell-passed, cell-ended}
 
-reaches-requires : tie.Need-reaches-requires
-reaches-requires c κs = search needs
+is-drawn-requires : tie.Need-is-drawn-requires
+is-drawn-requires c κs = search needs
 
-reached-cell-requires : tie.Need-reached-cell-requires
-reached-cell-requires c κs = search needs
+is-at-requires : tie.Need-is-at-requires
+is-at-requires c κs = search needs
+
+passing-requires : tie.Need-passing-requires
+passing-requires c κs = search needs
+
+link-cell-requires : tie.Need-link-cell-requires
+link-cell-requires c κs = search needs
+
+passed-cell-requires : tie.Need-passed-cell-requires
+passed-cell-requires c κs = search needs
 
 returns : tie.Need-returns
-returns c = let t = c .before in
-    let a = t .before .before .args in
-    chosen (reaches (a .bounds) (a .swap) (a .index)) (cellOf (a .need-link-line) (a .bounds) (a .swap) (a .index) (a .drawn) (a .before) (a .settled)) (plainCell (a .need-link-line) (a .settled)) _ (sym (t .before .reaches .ensures) ∙ t .if1 .taken) (c .reached-cell .ensures)
+returns c = let t = c .before .before .before in
+    let a = t .before .before .before .before .args in
+    cell-passed (a .need-link-line) (a .bounds) (a .swap) (a .index) (a .drawn) (a .before) (a .settled) (a .plain) _ _ _ (t .before .before .is-drawn .ensures) (t .before .is-at .ensures) _ _ (t .if1 .taken) (c .before .before .passing .ensures) (c .before .link-cell .ensures) (c .passed-cell .ensures)
 
-plain-cell-requires : tie.Need-plain-cell-requires
-plain-cell-requires c κs = search needs
+ended-cell-requires : tie.Need-ended-cell-requires
+ended-cell-requires c κs = search needs
 
 returns-2 : tie.Need-returns-2
 returns-2 c = let t = c .before in
-    let a = t .before .before .args in
-    not-chosen (reaches (a .bounds) (a .swap) (a .index)) (cellOf (a .need-link-line) (a .bounds) (a .swap) (a .index) (a .drawn) (a .before) (a .settled)) (plainCell (a .need-link-line) (a .settled)) _ (sym (t .before .reaches .ensures) ∙ t .if1 .left) (c .plain-cell .ensures)
+    let a = t .before .before .before .before .args in
+    cell-ended (a .need-link-line) (a .bounds) (a .swap) (a .index) (a .drawn) (a .before) (a .settled) (a .plain) _ _ _ (t .before .before .is-drawn .ensures) (t .before .is-at .ensures) (t .if1 .left) (c .ended-cell .ensures)
 
 pub cell-spec : {M : Type 1} → statement M
 cell-spec =
     tie.close
-    (tie.spec reaches-requires reached-cell-requires returns plain-cell-requires returns-2)
+    (tie.spec
+    is-drawn-requires
+    is-at-requires
+    passing-requires
+    link-cell-requires
+    passed-cell-requires
+    returns
+    ended-cell-requires
+    returns-2)

@@ -11,7 +11,7 @@ use Rattle.column.specs.Columns.{columnLimit, isParent, put, live}
 use Rattle.render.specs.Entries.{given}
 use Rattle.shaper.proofs.Laws.{slots-long, entries-long}
 use Rattle.placing.proofs.PlacingLaws.{Going, going-over, going-next}
-use Rattle.row_shape.proofs.NextRow.{row-too-many, row-no-column, column-within, Begun, begun, bare, count-within, row-start, entry-next, row-walked, row-no-room, other-within, row-done, Drawing, drawing-start, drawing-next}
+use Rattle.row_shape.proofs.NextRow.{row-too-many, row-no-column, column-within, Begun, begun, bare, count-within, row-start, entry-next, row-walked, row-no-room, other-within, row-done, Plain, plain-start, plain-next, Drawing, drawing-start, drawing-next}
 
 abbrev Inv-loop : tie.InvT-loop
 Inv-loop shaper node entries options previous old-slots held m existing column is-head slots₀ beside count₀ nobody parents₀ last₀ said₀ n i₀ slots count parents last said i =
@@ -21,82 +21,97 @@ abbrev μ-loop : tie.MeasureT-loop
 μ-loop shaper node entries options previous old-slots held m existing column is-head slots₀ beside count₀ nobody parents₀ last₀ said₀ n i₀ slots count parents last said i = n - i
 
 abbrev Inv-loop2 : tie.InvT-loop2
-Inv-loop2 node options previous old-slots held m existing column is-head slots beside count parents last said n i other swap bounds need cells₀ k₀ cells k =
-    Drawing need bounds swap parents old-slots slots m column count cells k
+Inv-loop2 node options previous old-slots held m existing column is-head slots beside count parents last said n i other swap bounds need parent ancestor blank cells₀ p₀ cells p = Plain need bounds swap parents old-slots slots m column count p cells
 
 abbrev μ-loop2 : tie.MeasureT-loop2
-μ-loop2 node options previous old-slots held m existing column is-head slots beside count parents last said n i other swap bounds need cells₀ k₀ cells k = count - k
+μ-loop2 node options previous old-slots held m existing column is-head slots beside count parents last said n i other swap bounds need parent ancestor blank cells₀ p₀ cells p = count - p
 
-are-too-many-requires : tie.Need-are-too-many-requires Inv-loop μ-loop Inv-loop2 μ-loop2
+abbrev Inv-loop3 : tie.InvT-loop3
+Inv-loop3 node options previous old-slots held m existing column is-head slots beside count parents last said n i other swap bounds need cells₀ p end k₀ cells k = Drawing need bounds swap parents old-slots slots m column count k cells
+
+abbrev μ-loop3 : tie.MeasureT-loop3
+μ-loop3 node options previous old-slots held m existing column is-head slots beside count parents last said n i other swap bounds need cells₀ p end k₀ cells k = end - k
+
+are-too-many-requires :
+    tie.Need-are-too-many-requires Inv-loop μ-loop Inv-loop2 μ-loop2 Inv-loop3 μ-loop3
 are-too-many-requires c κs = search needs
 
-refused-row-requires : tie.Need-refused-row-requires Inv-loop μ-loop Inv-loop2 μ-loop2
+refused-row-requires :
+    tie.Need-refused-row-requires Inv-loop μ-loop Inv-loop2 μ-loop2 Inv-loop3 μ-loop3
 refused-row-requires c κs = search needs
 
-returns : tie.Need-returns Inv-loop μ-loop Inv-loop2 μ-loop2
+returns : tie.Need-returns Inv-loop μ-loop Inv-loop2 μ-loop2 Inv-loop3 μ-loop3
 returns c = let a = c .before .before .before .args in
     row-too-many (a .shaper) (a .node) (a .t3) _ (sym (c .before .before .are-too-many .ensures) ∙ c .before .if1 .taken) (c .refused-row .ensures)
 
-live-count-requires : tie.Need-live-count-requires Inv-loop μ-loop Inv-loop2 μ-loop2
+live-count-requires :
+    tie.Need-live-count-requires Inv-loop μ-loop Inv-loop2 μ-loop2 Inv-loop3 μ-loop3
 live-count-requires c κs = search needs
 
-find-requires : tie.Need-find-requires Inv-loop μ-loop Inv-loop2 μ-loop2
+find-requires : tie.Need-find-requires Inv-loop μ-loop Inv-loop2 μ-loop2 Inv-loop3 μ-loop3
 find-requires c κs = search needs
 
-find-column-requires : tie.Need-find-column-requires Inv-loop μ-loop Inv-loop2 μ-loop2
+find-column-requires :
+    tie.Need-find-column-requires Inv-loop μ-loop Inv-loop2 μ-loop2 Inv-loop3 μ-loop3
 find-column-requires c κs = search needs
 
-enum-known-column : tie.Need-enum-known-column Inv-loop μ-loop Inv-loop2 μ-loop2
+enum-known-column : tie.Need-enum-known-column Inv-loop μ-loop Inv-loop2 μ-loop2 Inv-loop3 μ-loop3
 enum-known-column c = search needs
 
-enum-told : tie.Need-enum-told Inv-loop μ-loop Inv-loop2 μ-loop2
+enum-told : tie.Need-enum-told Inv-loop μ-loop Inv-loop2 μ-loop2 Inv-loop3 μ-loop3
 enum-told c = search needs
 
-refused-row-requires-2 : tie.Need-refused-row-requires-2 Inv-loop μ-loop Inv-loop2 μ-loop2
+refused-row-requires-2 :
+    tie.Need-refused-row-requires-2 Inv-loop μ-loop Inv-loop2 μ-loop2 Inv-loop3 μ-loop3
 refused-row-requires-2 c κs = search needs
 
-returns-2 : tie.Need-returns-2 Inv-loop μ-loop Inv-loop2 μ-loop2
+returns-2 : tie.Need-returns-2 Inv-loop μ-loop Inv-loop2 μ-loop2 Inv-loop3 μ-loop3
 returns-2 c = let f = c .before .before .before in
     let a = f .before .before .before .before .before .before .before .args in
     row-no-column (a .shaper) (a .node) (a .t3) (sym (f .before .before .before .before .before .before .are-too-many .ensures) ∙ f .before .before .before .before .before .if1 .left) _ _ _ (f .before .find .ensures) (f .find-column .ensures) (c .before .enum-told .given .1) (c .refused-row2 .ensures)
 
-mul-node-slot : tie.Need-mul-node-slot Inv-loop μ-loop Inv-loop2 μ-loop2
+mul-node-slot : tie.Need-mul-node-slot Inv-loop μ-loop Inv-loop2 μ-loop2 Inv-loop3 μ-loop3
 mul-node-slot c = omega (arith, (column-within _ _ _ (c .before .before .before .find-column .ensures) (c .before .column .given .1)))
 
-array-copy-out-node-slot : tie.Need-array-copy-out-node-slot Inv-loop μ-loop Inv-loop2 μ-loop2
+array-copy-out-node-slot :
+    tie.Need-array-copy-out-node-slot Inv-loop μ-loop Inv-loop2 μ-loop2 Inv-loop3 μ-loop3
 array-copy-out-node-slot c = (column-within _ _ _ (c .before .before .before .find-column .ensures) (c .before .column .given .1))
 
-is-head-requires : tie.Need-is-head-requires Inv-loop μ-loop Inv-loop2 μ-loop2
+is-head-requires : tie.Need-is-head-requires Inv-loop μ-loop Inv-loop2 μ-loop2 Inv-loop3 μ-loop3
 is-head-requires c κs = search needs
 
-placeholder-requires : tie.Need-placeholder-requires Inv-loop μ-loop Inv-loop2 μ-loop2
+placeholder-requires :
+    tie.Need-placeholder-requires Inv-loop μ-loop Inv-loop2 μ-loop2 Inv-loop3 μ-loop3
 placeholder-requires c κs = search needs
 
-empty-requires : tie.Need-empty-requires Inv-loop μ-loop Inv-loop2 μ-loop2
+empty-requires : tie.Need-empty-requires Inv-loop μ-loop Inv-loop2 μ-loop2 Inv-loop3 μ-loop3
 empty-requires c κs = search needs
 
-mul-slots : tie.Need-mul-slots Inv-loop μ-loop Inv-loop2 μ-loop2
+mul-slots : tie.Need-mul-slots Inv-loop μ-loop Inv-loop2 μ-loop2 Inv-loop3 μ-loop3
 mul-slots c = omega (arith, (column-within _ _ _ (c .before .before .before .before .before .before .before .find-column .ensures) (c .before .before .before .before .before .column .given .1)), c .before .placeholder .ensures)
 
-array-set-from-slots : tie.Need-array-set-from-slots Inv-loop μ-loop Inv-loop2 μ-loop2
+array-set-from-slots :
+    tie.Need-array-set-from-slots Inv-loop μ-loop Inv-loop2 μ-loop2 Inv-loop3 μ-loop3
 array-set-from-slots c = omega (arith, (column-within _ _ _ (c .before .before .before .before .before .before .before .find-column .ensures) (c .before .before .before .before .before .column .given .1)), c .before .placeholder .ensures)
 
-empty-requires-2 : tie.Need-empty-requires-2 Inv-loop μ-loop Inv-loop2 μ-loop2
+empty-requires-2 : tie.Need-empty-requires-2 Inv-loop μ-loop Inv-loop2 μ-loop2 Inv-loop3 μ-loop3
 empty-requires-2 c κs = search needs
 
-mul-slots-2 : tie.Need-mul-slots-2 Inv-loop μ-loop Inv-loop2 μ-loop2
+mul-slots-2 : tie.Need-mul-slots-2 Inv-loop μ-loop Inv-loop2 μ-loop2 Inv-loop3 μ-loop3
 mul-slots-2 c = omega (arith, (column-within _ _ _ (c .before .before .before .before .before .before .before .before .find-column .ensures) (c .before .before .before .before .before .before .column .given .1)))
 
-array-set-from-slots-2 : tie.Need-array-set-from-slots-2 Inv-loop μ-loop Inv-loop2 μ-loop2
+array-set-from-slots-2 :
+    tie.Need-array-set-from-slots-2 Inv-loop μ-loop Inv-loop2 μ-loop2 Inv-loop3 μ-loop3
 array-set-from-slots-2 c = (column-within _ _ _ (c .before .before .before .before .before .before .before .before .find-column .ensures) (c .before .before .before .before .before .before .column .given .1))
 
-count-with-requires : tie.Need-count-with-requires Inv-loop μ-loop Inv-loop2 μ-loop2
+count-with-requires :
+    tie.Need-count-with-requires Inv-loop μ-loop Inv-loop2 μ-loop2 Inv-loop3 μ-loop3
 count-with-requires c κs = search needs
 
-nobody-requires : tie.Need-nobody-requires Inv-loop μ-loop Inv-loop2 μ-loop2
+nobody-requires : tie.Need-nobody-requires Inv-loop μ-loop Inv-loop2 μ-loop2 Inv-loop3 μ-loop3
 nobody-requires c κs = search needs
 
-loop-holds : tie.Need-loop-holds Inv-loop μ-loop Inv-loop2 μ-loop2
+loop-holds : tie.Need-loop-holds Inv-loop μ-loop Inv-loop2 μ-loop2 Inv-loop3 μ-loop3
 loop-holds c = let f = c .before .before .before .before .before .before .before .before .before .before in
     let a = f .before .before .before .before .before .before .before .args in
     let b = begun (a .shaper) (a .node) (a .t3) _ _ _ _ (sym (f .before .before .before .before .before .before .are-too-many .ensures) ∙ f .before .before .before .before .before .if1 .left) (f .before .find .ensures) (f .find-column .ensures) (c .before .before .before .before .before .before .before .before .column .given .1) (f .before .before .live-count .ensures)
@@ -107,23 +122,26 @@ loop-holds c = let f = c .before .before .before .before .before .before .before
           (row-start (a .shaper) (a .node) (a .t3) _ _ _ b (c .before .before .before .before .placeholder .result) (c .before .count-with .result) _ (c .before .before .before .before .placeholder .ensures) (c .before .count-with .ensures) (rw (c .nobody .ensures))),
     )
 
-mul-entry : tie.Need-mul-entry Inv-loop μ-loop Inv-loop2 μ-loop2
+mul-entry : tie.Need-mul-entry Inv-loop μ-loop Inv-loop2 μ-loop2 Inv-loop3 μ-loop3
 mul-entry c = let l = c .before in
     let a = l .before .before .before .before .before .before .before .before .before .before .before .before .before .before .before .before .before .before .args in
     omega (arith, c .loop-test .taken, count-within (a .shaper) (a .node) (a .t3) _ _ _ (l .loop .inv .1))
 
-element-copy-out-entry : tie.Need-element-copy-out-entry Inv-loop μ-loop Inv-loop2 μ-loop2
+element-copy-out-entry :
+    tie.Need-element-copy-out-entry Inv-loop μ-loop Inv-loop2 μ-loop2 Inv-loop3 μ-loop3
 element-copy-out-entry c = let l = c .before in
     let a = l .before .before .before .before .before .before .before .before .before .before .before .before .before .before .before .before .before .before .args in
     omega (arith, c .loop-test .taken, count-within (a .shaper) (a .node) (a .t3) _ _ _ (l .loop .inv .1))
 
-parent-column-requires : tie.Need-parent-column-requires Inv-loop μ-loop Inv-loop2 μ-loop2
+parent-column-requires :
+    tie.Need-parent-column-requires Inv-loop μ-loop Inv-loop2 μ-loop2 Inv-loop3 μ-loop3
 parent-column-requires c κs = search needs
 
-refused-row-requires-3 : tie.Need-refused-row-requires-3 Inv-loop μ-loop Inv-loop2 μ-loop2
+refused-row-requires-3 :
+    tie.Need-refused-row-requires-3 Inv-loop μ-loop Inv-loop2 μ-loop2 Inv-loop3 μ-loop3
 refused-row-requires-3 c κs = search needs
 
-returns-3 : tie.Need-returns-3 Inv-loop μ-loop Inv-loop2 μ-loop2
+returns-3 : tie.Need-returns-3 Inv-loop μ-loop Inv-loop2 μ-loop2 Inv-loop3 μ-loop3
 returns-3 c = let l = c .before .before .before .before .before in
     let v = l .loop in
     let a = l .before .before .before .before .before .before .before .before .before .before .before .before .before .before .before .before .before .before .args in
@@ -132,42 +150,47 @@ returns-3 c = let l = c .before .before .before .before .before in
     let h = c .before .before .before .before .loop-test .taken in
     row-no-room (a .shaper) (a .node) (a .t3) _ _ _ b _ (going-over bs _ (given (a .t3)) (v .i) (v .slots) (v .count) (v .parents) (v .parent-column) (v .need-term-line) (v .inv .2) _ (entry-next (a .shaper) (a .node) (a .t3) _ _ _ b (v .i) _ h) _ (c .before .before .parent-column .ensures) (c .before .if2 .taken)) (c .refused-row3 .ensures)
 
-mul-slot : tie.Need-mul-slot Inv-loop μ-loop Inv-loop2 μ-loop2
+mul-slot : tie.Need-mul-slot Inv-loop μ-loop Inv-loop2 μ-loop2 Inv-loop3 μ-loop3
 mul-slot c = search needs
 
-array-copy-out-slot : tie.Need-array-copy-out-slot Inv-loop μ-loop Inv-loop2 μ-loop2
+array-copy-out-slot :
+    tie.Need-array-copy-out-slot Inv-loop μ-loop Inv-loop2 μ-loop2 Inv-loop3 μ-loop3
 array-copy-out-slot c = search needs
 
-entered-requires : tie.Need-entered-requires Inv-loop μ-loop Inv-loop2 μ-loop2
+entered-requires : tie.Need-entered-requires Inv-loop μ-loop Inv-loop2 μ-loop2 Inv-loop3 μ-loop3
 entered-requires c κs = search needs
 
-mul-slots-3 : tie.Need-mul-slots-3 Inv-loop μ-loop Inv-loop2 μ-loop2
+mul-slots-3 : tie.Need-mul-slots-3 Inv-loop μ-loop Inv-loop2 μ-loop2 Inv-loop3 μ-loop3
 mul-slots-3 c = search needs
 
-array-set-from-slots-3 : tie.Need-array-set-from-slots-3 Inv-loop μ-loop Inv-loop2 μ-loop2
+array-set-from-slots-3 :
+    tie.Need-array-set-from-slots-3 Inv-loop μ-loop Inv-loop2 μ-loop2 Inv-loop3 μ-loop3
 array-set-from-slots-3 c = search needs
 
-count-with-requires-2 : tie.Need-count-with-requires-2 Inv-loop μ-loop Inv-loop2 μ-loop2
+count-with-requires-2 :
+    tie.Need-count-with-requires-2 Inv-loop μ-loop Inv-loop2 μ-loop2 Inv-loop3 μ-loop3
 count-with-requires-2 c κs = search needs
 
-drawn-by-requires : tie.Need-drawn-by-requires Inv-loop μ-loop Inv-loop2 μ-loop2
+drawn-by-requires : tie.Need-drawn-by-requires Inv-loop μ-loop Inv-loop2 μ-loop2 Inv-loop3 μ-loop3
 drawn-by-requires c κs = search needs
 
-array-set-from-parents : tie.Need-array-set-from-parents Inv-loop μ-loop Inv-loop2 μ-loop2
+array-set-from-parents :
+    tie.Need-array-set-from-parents Inv-loop μ-loop Inv-loop2 μ-loop2 Inv-loop3 μ-loop3
 array-set-from-parents c = search needs
 
-is-anonymous-requires : tie.Need-is-anonymous-requires Inv-loop μ-loop Inv-loop2 μ-loop2
+is-anonymous-requires :
+    tie.Need-is-anonymous-requires Inv-loop μ-loop Inv-loop2 μ-loop2 Inv-loop3 μ-loop3
 is-anonymous-requires c κs = search needs
 
-add-i : tie.Need-add-i Inv-loop μ-loop Inv-loop2 μ-loop2
+add-i : tie.Need-add-i Inv-loop μ-loop Inv-loop2 μ-loop2 Inv-loop3 μ-loop3
 add-i c = let l = c .before .before .before .before .before .before .before .before .before in
     let a = l .before .before .before .before .before .before .before .before .before .before .before .before .before .before .before .before .before .before .args in
     omega (arith, c .before .before .before .before .before .before .before .before .loop-test .taken, count-within (a .shaper) (a .node) (a .t3) _ _ _ (l .loop .inv .1))
 
-loop-less : tie.Need-loop-less Inv-loop μ-loop Inv-loop2 μ-loop2
+loop-less : tie.Need-loop-less Inv-loop μ-loop Inv-loop2 μ-loop2 Inv-loop3 μ-loop3
 loop-less c = omega (arith, c .before .before .before .before .before .before .before .before .loop-test .taken)
 
-loop-again : tie.Need-loop-again Inv-loop μ-loop Inv-loop2 μ-loop2
+loop-again : tie.Need-loop-again Inv-loop μ-loop Inv-loop2 μ-loop2 Inv-loop3 μ-loop3
 loop-again c = let l = c .before .before .before .before .before .before .before .before .before in
     let v = l .loop in
     let a = l .before .before .before .before .before .before .before .before .before .before .before .before .before .before .before .before .before .before .args in
@@ -179,13 +202,13 @@ loop-again c = let l = c .before .before .before .before .before .before .before
       going-next bs _ (given (a .t3)) (v .i) (v .slots) (v .count) (v .parents) (v .parent-column) (v .need-term-line) (v .inv .2) _ (entry-next (a .shaper) (a .node) (a .t3) _ _ _ b (v .i) _ h) _ (c .before .before .before .before .before .before .parent-column .ensures) (omega (arith, c .before .before .before .before .before .if2 .left)) _ (c .before .before .count-with2 .ensures) _ (c .before .before .before .entered .ensures) _ (c .before .drawn-by .ensures) _ (c .is-anonymous .ensures),
     )
 
-given-up-requires : tie.Need-given-up-requires Inv-loop μ-loop Inv-loop2 μ-loop2
+given-up-requires : tie.Need-given-up-requires Inv-loop μ-loop Inv-loop2 μ-loop2 Inv-loop3 μ-loop3
 given-up-requires c κs = search needs
 
-or-else-requires : tie.Need-or-else-requires Inv-loop μ-loop Inv-loop2 μ-loop2
+or-else-requires : tie.Need-or-else-requires Inv-loop μ-loop Inv-loop2 μ-loop2 Inv-loop3 μ-loop3
 or-else-requires c κs = search needs
 
-mul-was : tie.Need-mul-was Inv-loop μ-loop Inv-loop2 μ-loop2
+mul-was : tie.Need-mul-was Inv-loop μ-loop Inv-loop2 μ-loop2 Inv-loop3 μ-loop3
 mul-was c = let t = c .before .before in
     let v = t .before .loop in
     let a = t .before .before .before .before .before .before .before .before .before .before .before .before .before .before .before .before .before .before .before .args in
@@ -193,7 +216,8 @@ mul-was c = let t = c .before .before in
     let g = row-walked (a .shaper) (a .node) (a .t3) _ _ _ b _ _ _ _ _ _ (v .inv .2) (t .loop-test .left) in
     omega (arith, other-within (a .shaper) (a .node) (a .t3) _ _ _ b _ _ _ _ _ g _ (c .before .given-up .ensures) _ (c .or-else .ensures))
 
-array-copy-out-was : tie.Need-array-copy-out-was Inv-loop μ-loop Inv-loop2 μ-loop2
+array-copy-out-was :
+    tie.Need-array-copy-out-was Inv-loop μ-loop Inv-loop2 μ-loop2 Inv-loop3 μ-loop3
 array-copy-out-was c = let t = c .before .before in
     let v = t .before .loop in
     let a = t .before .before .before .before .before .before .before .before .before .before .before .before .before .before .before .before .before .before .before .args in
@@ -201,19 +225,22 @@ array-copy-out-was c = let t = c .before .before in
     let g = row-walked (a .shaper) (a .node) (a .t3) _ _ _ b _ _ _ _ _ _ (v .inv .2) (t .loop-test .left) in
     other-within (a .shaper) (a .node) (a .t3) _ _ _ b _ _ _ _ _ g _ (c .before .given-up .ensures) _ (c .or-else .ensures)
 
-column-before-requires : tie.Need-column-before-requires Inv-loop μ-loop Inv-loop2 μ-loop2
+column-before-requires :
+    tie.Need-column-before-requires Inv-loop μ-loop Inv-loop2 μ-loop2 Inv-loop3 μ-loop3
 column-before-requires c κs = search needs
 
-is-parent-requires : tie.Need-is-parent-requires Inv-loop μ-loop Inv-loop2 μ-loop2
+is-parent-requires :
+    tie.Need-is-parent-requires Inv-loop μ-loop Inv-loop2 μ-loop2 Inv-loop3 μ-loop3
 is-parent-requires c κs = search needs
 
-mul-own-slot : tie.Need-mul-own-slot Inv-loop μ-loop Inv-loop2 μ-loop2
+mul-own-slot : tie.Need-mul-own-slot Inv-loop μ-loop Inv-loop2 μ-loop2 Inv-loop3 μ-loop3
 mul-own-slot c = omega (arith, c .before .before .before .before .before .before .loop .inv .1 .within)
 
-array-copy-out-own-slot : tie.Need-array-copy-out-own-slot Inv-loop μ-loop Inv-loop2 μ-loop2
+array-copy-out-own-slot :
+    tie.Need-array-copy-out-own-slot Inv-loop μ-loop Inv-loop2 μ-loop2 Inv-loop3 μ-loop3
 array-copy-out-own-slot c = c .before .before .before .before .before .before .loop .inv .1 .within
 
-mul-other-slot : tie.Need-mul-other-slot Inv-loop μ-loop Inv-loop2 μ-loop2
+mul-other-slot : tie.Need-mul-other-slot Inv-loop μ-loop Inv-loop2 μ-loop2 Inv-loop3 μ-loop3
 mul-other-slot c = let t = c .before .before .before .before .before .before in
     let v = t .before .loop in
     let a = t .before .before .before .before .before .before .before .before .before .before .before .before .before .before .before .before .before .before .before .args in
@@ -221,7 +248,8 @@ mul-other-slot c = let t = c .before .before .before .before .before .before in
     let g = row-walked (a .shaper) (a .node) (a .t3) _ _ _ b _ _ _ _ _ _ (v .inv .2) (t .loop-test .left) in
     omega (arith, other-within (a .shaper) (a .node) (a .t3) _ _ _ b _ _ _ _ _ g _ (c .before .before .before .before .before .given-up .ensures) _ (c .before .before .before .before .or-else .ensures))
 
-array-copy-out-other-slot : tie.Need-array-copy-out-other-slot Inv-loop μ-loop Inv-loop2 μ-loop2
+array-copy-out-other-slot :
+    tie.Need-array-copy-out-other-slot Inv-loop μ-loop Inv-loop2 μ-loop2 Inv-loop3 μ-loop3
 array-copy-out-other-slot c = let t = c .before .before .before .before .before .before in
     let v = t .before .loop in
     let a = t .before .before .before .before .before .before .before .before .before .before .before .before .before .before .before .before .before .before .before .args in
@@ -229,13 +257,14 @@ array-copy-out-other-slot c = let t = c .before .before .before .before .before 
     let g = row-walked (a .shaper) (a .node) (a .t3) _ _ _ b _ _ _ _ _ _ (v .inv .2) (t .loop-test .left) in
     other-within (a .shaper) (a .node) (a .t3) _ _ _ b _ _ _ _ _ g _ (c .before .before .before .before .before .given-up .ensures) _ (c .before .before .before .before .or-else .ensures)
 
-mul-slots-4 : tie.Need-mul-slots-4 Inv-loop μ-loop Inv-loop2 μ-loop2
+mul-slots-4 : tie.Need-mul-slots-4 Inv-loop μ-loop Inv-loop2 μ-loop2 Inv-loop3 μ-loop3
 mul-slots-4 c = omega (arith, c .before .before .before .before .before .before .before .before .loop .inv .1 .within)
 
-array-set-from-slots-4 : tie.Need-array-set-from-slots-4 Inv-loop μ-loop Inv-loop2 μ-loop2
+array-set-from-slots-4 :
+    tie.Need-array-set-from-slots-4 Inv-loop μ-loop Inv-loop2 μ-loop2 Inv-loop3 μ-loop3
 array-set-from-slots-4 c = c .before .before .before .before .before .before .before .before .loop .inv .1 .within
 
-mul-slots-5 : tie.Need-mul-slots-5 Inv-loop μ-loop Inv-loop2 μ-loop2
+mul-slots-5 : tie.Need-mul-slots-5 Inv-loop μ-loop Inv-loop2 μ-loop2 Inv-loop3 μ-loop3
 mul-slots-5 c = let t = c .before .before .before .before .before .before .before in
     let v = t .before .loop in
     let a = t .before .before .before .before .before .before .before .before .before .before .before .before .before .before .before .before .before .before .before .args in
@@ -243,7 +272,8 @@ mul-slots-5 c = let t = c .before .before .before .before .before .before .befor
     let g = row-walked (a .shaper) (a .node) (a .t3) _ _ _ b _ _ _ _ _ _ (v .inv .2) (t .loop-test .left) in
     omega (arith, other-within (a .shaper) (a .node) (a .t3) _ _ _ b _ _ _ _ _ g _ (c .before .before .before .before .before .before .given-up .ensures) _ (c .before .before .before .before .before .or-else .ensures))
 
-array-set-from-slots-5 : tie.Need-array-set-from-slots-5 Inv-loop μ-loop Inv-loop2 μ-loop2
+array-set-from-slots-5 :
+    tie.Need-array-set-from-slots-5 Inv-loop μ-loop Inv-loop2 μ-loop2 Inv-loop3 μ-loop3
 array-set-from-slots-5 c = let t = c .before .before .before .before .before .before .before in
     let v = t .before .loop in
     let a = t .before .before .before .before .before .before .before .before .before .before .before .before .before .before .before .before .before .before .before .args in
@@ -251,7 +281,8 @@ array-set-from-slots-5 c = let t = c .before .before .before .before .before .be
     let g = row-walked (a .shaper) (a .node) (a .t3) _ _ _ b _ _ _ _ _ _ (v .inv .2) (t .loop-test .left) in
     other-within (a .shaper) (a .node) (a .t3) _ _ _ b _ _ _ _ _ g _ (c .before .before .before .before .before .before .given-up .ensures) _ (c .before .before .before .before .before .or-else .ensures)
 
-array-copy-out-drawn-in : tie.Need-array-copy-out-drawn-in Inv-loop μ-loop Inv-loop2 μ-loop2
+array-copy-out-drawn-in :
+    tie.Need-array-copy-out-drawn-in Inv-loop μ-loop Inv-loop2 μ-loop2 Inv-loop3 μ-loop3
 array-copy-out-drawn-in c = let t = c .before .before .before .before .before .before .before in
     let v = t .before .loop in
     let a = t .before .before .before .before .before .before .before .before .before .before .before .before .before .before .before .before .before .before .before .args in
@@ -259,7 +290,8 @@ array-copy-out-drawn-in c = let t = c .before .before .before .before .before .b
     let g = row-walked (a .shaper) (a .node) (a .t3) _ _ _ b _ _ _ _ _ _ (v .inv .2) (t .loop-test .left) in
     other-within (a .shaper) (a .node) (a .t3) _ _ _ b _ _ _ _ _ g _ (c .before .before .before .before .before .before .given-up .ensures) _ (c .before .before .before .before .before .or-else .ensures)
 
-array-set-from-parents-2 : tie.Need-array-set-from-parents-2 Inv-loop μ-loop Inv-loop2 μ-loop2
+array-set-from-parents-2 :
+    tie.Need-array-set-from-parents-2 Inv-loop μ-loop Inv-loop2 μ-loop2 Inv-loop3 μ-loop3
 array-set-from-parents-2 c = let t = c .before .before .before .before .before .before .before .before in
     let v = t .before .loop in
     let a = t .before .before .before .before .before .before .before .before .before .before .before .before .before .before .before .before .before .before .before .args in
@@ -267,79 +299,143 @@ array-set-from-parents-2 c = let t = c .before .before .before .before .before .
     let g = row-walked (a .shaper) (a .node) (a .t3) _ _ _ b _ _ _ _ _ _ (v .inv .2) (t .loop-test .left) in
     other-within (a .shaper) (a .node) (a .t3) _ _ _ b _ _ _ _ _ g _ (c .before .before .before .before .before .before .before .given-up .ensures) _ (c .before .before .before .before .before .before .or-else .ensures)
 
-array-set-from-parents-3 : tie.Need-array-set-from-parents-3 Inv-loop μ-loop Inv-loop2 μ-loop2
+array-set-from-parents-3 :
+    tie.Need-array-set-from-parents-3 Inv-loop μ-loop Inv-loop2 μ-loop2 Inv-loop3 μ-loop3
 array-set-from-parents-3 c = c .before .before .before .before .before .before .before .before .before .loop .inv .1 .within
 
-new-requires : tie.Need-new-requires Inv-loop μ-loop Inv-loop2 μ-loop2
+new-requires : tie.Need-new-requires Inv-loop μ-loop Inv-loop2 μ-loop2 Inv-loop3 μ-loop3
 new-requires c κs = search needs
 
-need-link-line-requires : tie.Need-need-link-line-requires Inv-loop μ-loop Inv-loop2 μ-loop2
+need-link-line-requires :
+    tie.Need-need-link-line-requires Inv-loop μ-loop Inv-loop2 μ-loop2 Inv-loop3 μ-loop3
 need-link-line-requires c κs = search needs
 
-blank-requires : tie.Need-blank-requires Inv-loop μ-loop Inv-loop2 μ-loop2
+plain-cell-requires :
+    tie.Need-plain-cell-requires Inv-loop μ-loop Inv-loop2 μ-loop2 Inv-loop3 μ-loop3
+plain-cell-requires c κs = search needs
+
+plain-cell-requires-2 :
+    tie.Need-plain-cell-requires-2 Inv-loop μ-loop Inv-loop2 μ-loop2 Inv-loop3 μ-loop3
+plain-cell-requires-2 c κs = search needs
+
+blank-requires : tie.Need-blank-requires Inv-loop μ-loop Inv-loop2 μ-loop2 Inv-loop3 μ-loop3
 blank-requires c κs = search needs
 
-loop2-holds : tie.Need-loop2-holds Inv-loop μ-loop Inv-loop2 μ-loop2
-loop2-holds c = let t = c .before .before .before .before .before .before .before .before .before .before .before in
+loop2-holds : tie.Need-loop2-holds Inv-loop μ-loop Inv-loop2 μ-loop2 Inv-loop3 μ-loop3
+loop2-holds c = let t = c .before .before .before .before .before .before .before .before .before .before .before .before .before in
     let v = t .before .loop in
     let a = t .before .before .before .before .before .before .before .before .before .before .before .before .before .before .before .before .before .before .before .args in
     let b = v .inv .1 in
     let g = row-walked (a .shaper) (a .node) (a .t3) _ _ _ b _ _ _ _ _ _ (v .inv .2) (t .loop-test .left) in
-    drawing-start _ _ _ _ _ _ _ _ _ _ _ (c .blank .ensures) (g .fits) refl
+    plain-start _ _ _ _ _ _ _ _ _ _ _ (c .blank .ensures) (g .fits) refl
 
-mul-bare : tie.Need-mul-bare Inv-loop μ-loop Inv-loop2 μ-loop2
-mul-bare c = omega (arith, c .loop2-test .taken, c .before .loop2 .inv .fits)
+mul-shown-slot : tie.Need-mul-shown-slot Inv-loop μ-loop Inv-loop2 μ-loop2 Inv-loop3 μ-loop3
+mul-shown-slot c = omega (arith, c .loop2-test .taken, c .before .loop2 .inv .fits)
 
-array-copy-out-bare : tie.Need-array-copy-out-bare Inv-loop μ-loop Inv-loop2 μ-loop2
-array-copy-out-bare c = omega (arith, c .loop2-test .taken, c .before .loop2 .inv .fits)
+array-copy-out-shown-slot :
+    tie.Need-array-copy-out-shown-slot Inv-loop μ-loop Inv-loop2 μ-loop2 Inv-loop3 μ-loop3
+array-copy-out-shown-slot c = omega (arith, c .loop2-test .taken, c .before .loop2 .inv .fits)
 
-column-before-requires-2 : tie.Need-column-before-requires-2 Inv-loop μ-loop Inv-loop2 μ-loop2
+shown-requires : tie.Need-shown-requires Inv-loop μ-loop Inv-loop2 μ-loop2 Inv-loop3 μ-loop3
+shown-requires c κs = search needs
+
+mul-cells : tie.Need-mul-cells Inv-loop μ-loop Inv-loop2 μ-loop2 Inv-loop3 μ-loop3
+mul-cells c = omega (arith, c .before .before .loop2-test .taken, c .before .before .before .loop2 .inv .fits)
+
+array-set-from-cells :
+    tie.Need-array-set-from-cells Inv-loop μ-loop Inv-loop2 μ-loop2 Inv-loop3 μ-loop3
+array-set-from-cells c = omega (arith, c .before .before .loop2-test .taken, c .before .before .before .loop2 .inv .fits)
+
+add-p : tie.Need-add-p Inv-loop μ-loop Inv-loop2 μ-loop2 Inv-loop3 μ-loop3
+add-p c = omega (arith, c .before .before .loop2-test .taken, c .before .before .before .loop2 .inv .fits)
+
+loop2-less : tie.Need-loop2-less Inv-loop μ-loop Inv-loop2 μ-loop2 Inv-loop3 μ-loop3
+loop2-less c = omega (arith, c .before .before .loop2-test .taken, c .before .before .before .loop2 .inv .fits)
+
+loop2-again : tie.Need-loop2-again Inv-loop μ-loop Inv-loop2 μ-loop2 Inv-loop3 μ-loop3
+loop2-again c = let l = c .before .before .before in
+    let v = l .loop2 in
+    plain-next _ _ _ _ _ _ _ _ _ (v .p) (v .cells) _ _ _ _ (v .inv) (c .before .before .loop2-test .taken) (l .before .before .before .plain-cell .ensures) (l .before .before .plain-cell2 .ensures) (l .before .blank .ensures) (c .shown .ensures)
+
+reach-end-requires :
+    tie.Need-reach-end-requires Inv-loop μ-loop Inv-loop2 μ-loop2 Inv-loop3 μ-loop3
+reach-end-requires c κs = search needs
+
+reach-start-requires :
+    tie.Need-reach-start-requires Inv-loop μ-loop Inv-loop2 μ-loop2 Inv-loop3 μ-loop3
+reach-start-requires c κs = search needs
+
+loop3-holds : tie.Need-loop3-holds Inv-loop μ-loop Inv-loop2 μ-loop2 Inv-loop3 μ-loop3
+loop3-holds c = let l = c .before .before .before in
+    drawing-start _ _ _ _ _ _ _ _ _ (l .loop2 .p) _ _ (c .reach-start .ensures) (c .before .before .loop2-test .left) (l .loop2 .inv)
+
+mul-bare : tie.Need-mul-bare Inv-loop μ-loop Inv-loop2 μ-loop2 Inv-loop3 μ-loop3
+mul-bare c = omega (arith, c .loop3-test .taken, c .before .before .before .reach-end .ensures, c .before .loop3 .inv .fits)
+
+array-copy-out-bare :
+    tie.Need-array-copy-out-bare Inv-loop μ-loop Inv-loop2 μ-loop2 Inv-loop3 μ-loop3
+array-copy-out-bare c = omega (arith, c .loop3-test .taken, c .before .before .before .reach-end .ensures, c .before .loop3 .inv .fits)
+
+column-before-requires-2 :
+    tie.Need-column-before-requires-2 Inv-loop μ-loop Inv-loop2 μ-loop2 Inv-loop3 μ-loop3
 column-before-requires-2 c κs = search needs
 
-mul-settled : tie.Need-mul-settled Inv-loop μ-loop Inv-loop2 μ-loop2
-mul-settled c = omega (arith, c .before .before .loop2-test .taken, c .before .before .before .loop2 .inv .fits)
+mul-settled : tie.Need-mul-settled Inv-loop μ-loop Inv-loop2 μ-loop2 Inv-loop3 μ-loop3
+mul-settled c = omega (arith, c .before .before .loop3-test .taken, c .before .before .before .before .before .reach-end .ensures, c .before .before .before .loop3 .inv .fits)
 
-array-copy-out-settled : tie.Need-array-copy-out-settled Inv-loop μ-loop Inv-loop2 μ-loop2
-array-copy-out-settled c = omega (arith, c .before .before .loop2-test .taken, c .before .before .before .loop2 .inv .fits)
+array-copy-out-settled :
+    tie.Need-array-copy-out-settled Inv-loop μ-loop Inv-loop2 μ-loop2 Inv-loop3 μ-loop3
+array-copy-out-settled c = omega (arith, c .before .before .loop3-test .taken, c .before .before .before .before .before .reach-end .ensures, c .before .before .before .loop3 .inv .fits)
 
-array-copy-out-parent : tie.Need-array-copy-out-parent Inv-loop μ-loop Inv-loop2 μ-loop2
-array-copy-out-parent c = omega (arith, c .before .before .before .loop2-test .taken, c .before .before .before .before .loop2 .inv .fits)
+array-copy-out-met :
+    tie.Need-array-copy-out-met Inv-loop μ-loop Inv-loop2 μ-loop2 Inv-loop3 μ-loop3
+array-copy-out-met c = omega (arith, c .before .before .before .loop3-test .taken, c .before .before .before .before .before .before .reach-end .ensures, c .before .before .before .before .loop3 .inv .fits)
 
-cell-requires : tie.Need-cell-requires Inv-loop μ-loop Inv-loop2 μ-loop2
+mul-plain : tie.Need-mul-plain Inv-loop μ-loop Inv-loop2 μ-loop2 Inv-loop3 μ-loop3
+mul-plain c = omega (arith, c .before .before .before .before .loop3-test .taken, c .before .before .before .before .before .before .before .reach-end .ensures, c .before .before .before .before .before .loop3 .inv .fits)
+
+array-copy-out-plain :
+    tie.Need-array-copy-out-plain Inv-loop μ-loop Inv-loop2 μ-loop2 Inv-loop3 μ-loop3
+array-copy-out-plain c = omega (arith, c .before .before .before .before .loop3-test .taken, c .before .before .before .before .before .before .before .reach-end .ensures, c .before .before .before .before .before .loop3 .inv .fits)
+
+cell-requires : tie.Need-cell-requires Inv-loop μ-loop Inv-loop2 μ-loop2 Inv-loop3 μ-loop3
 cell-requires c κs = search needs
 
-mul-cells : tie.Need-mul-cells Inv-loop μ-loop Inv-loop2 μ-loop2
-mul-cells c = omega (arith, c .before .before .before .before .before .loop2-test .taken, c .before .before .before .before .before .before .loop2 .inv .fits)
+mul-cells-2 : tie.Need-mul-cells-2 Inv-loop μ-loop Inv-loop2 μ-loop2 Inv-loop3 μ-loop3
+mul-cells-2 c = omega (arith, c .before .before .before .before .before .before .loop3-test .taken, c .before .before .before .before .before .before .before .before .before .reach-end .ensures, c .before .before .before .before .before .before .before .loop3 .inv .fits)
 
-array-set-from-cells : tie.Need-array-set-from-cells Inv-loop μ-loop Inv-loop2 μ-loop2
-array-set-from-cells c = omega (arith, c .before .before .before .before .before .loop2-test .taken, c .before .before .before .before .before .before .loop2 .inv .fits)
+array-set-from-cells-2 :
+    tie.Need-array-set-from-cells-2 Inv-loop μ-loop Inv-loop2 μ-loop2 Inv-loop3 μ-loop3
+array-set-from-cells-2 c = omega (arith, c .before .before .before .before .before .before .loop3-test .taken, c .before .before .before .before .before .before .before .before .before .reach-end .ensures, c .before .before .before .before .before .before .before .loop3 .inv .fits)
 
-add-k : tie.Need-add-k Inv-loop μ-loop Inv-loop2 μ-loop2
-add-k c = omega (arith, c .before .before .before .before .before .loop2-test .taken, c .before .before .before .before .before .before .loop2 .inv .fits)
+add-k : tie.Need-add-k Inv-loop μ-loop Inv-loop2 μ-loop2 Inv-loop3 μ-loop3
+add-k c = omega (arith, c .before .before .before .before .before .before .loop3-test .taken, c .before .before .before .before .before .before .before .before .before .reach-end .ensures, c .before .before .before .before .before .before .before .loop3 .inv .fits)
 
-loop2-less : tie.Need-loop2-less Inv-loop μ-loop Inv-loop2 μ-loop2
-loop2-less c = omega (arith, c .before .before .before .before .before .loop2-test .taken, c .before .before .before .before .before .before .loop2 .inv .fits)
+loop3-less : tie.Need-loop3-less Inv-loop μ-loop Inv-loop2 μ-loop2 Inv-loop3 μ-loop3
+loop3-less c = omega (arith, c .before .before .before .before .before .before .loop3-test .taken, c .before .before .before .before .before .before .before .before .before .reach-end .ensures, c .before .before .before .before .before .before .before .loop3 .inv .fits)
 
-loop2-again : tie.Need-loop2-again Inv-loop μ-loop Inv-loop2 μ-loop2
-loop2-again c = let v = c .before .before .before .before .before .before .loop2 in
-    drawing-next _ _ _ _ _ _ _ _ _ (v .cells) (v .k) _ _ (v .inv) (c .before .before .before .before .before .loop2-test .taken) (c .cell .ensures) (c .before .before .before .column-before2 .ensures)
+loop3-again : tie.Need-loop3-again Inv-loop μ-loop Inv-loop2 μ-loop2 Inv-loop3 μ-loop3
+loop3-again c = let l = c .before .before .before .before .before .before .before in
+    let v = l .loop3 in
+    drawing-next _ _ _ _ _ _ _ _ _ (v .k) (v .cells) _ _ (v .inv) (omega (arith, c .before .before .before .before .before .before .loop3-test .taken, l .before .before .reach-end .ensures)) (c .cell .ensures) (c .before .before .before .before .column-before2 .ensures)
 
-separator-line-requires : tie.Need-separator-line-requires Inv-loop μ-loop Inv-loop2 μ-loop2
+separator-line-requires :
+    tie.Need-separator-line-requires Inv-loop μ-loop Inv-loop2 μ-loop2 Inv-loop3 μ-loop3
 separator-line-requires c κs = search needs
 
-ended-requires : tie.Need-ended-requires Inv-loop μ-loop Inv-loop2 μ-loop2
+ended-requires : tie.Need-ended-requires Inv-loop μ-loop Inv-loop2 μ-loop2 Inv-loop3 μ-loop3
 ended-requires c κs = search needs
 
-returns-4 : tie.Need-returns-4 Inv-loop μ-loop Inv-loop2 μ-loop2
-returns-4 c = let t = c .before .before .before .before .before .before .before .before .before .before .before .before .before .before .before .before .before in
+returns-4 : tie.Need-returns-4 Inv-loop μ-loop Inv-loop2 μ-loop2 Inv-loop3 μ-loop3
+returns-4 c = let t = c .before .before .before .before .before .before .before .before .before .before .before .before .before .before .before .before .before .before .before .before .before .before .before in
     let v = t .before .loop in
     let a = t .before .before .before .before .before .before .before .before .before .before .before .before .before .before .before .before .before .before .before .args in
     let b = v .inv .1 in
     let g = row-walked (a .shaper) (a .node) (a .t3) _ _ _ b _ _ _ _ _ _ (v .inv .2) (t .loop-test .left) in
-    let q = c .before .before .before .before .before .loop2 in
-    row-done (a .shaper) (a .node) (a .t3) _ _ _ b _ _ _ _ _ g _ (c .before .before .before .before .before .before .before .before .before .before .before .before .before .before .before .before .given-up .ensures) _ (c .before .before .before .before .before .before .before .before .before .before .before .before .before .before .before .or-else .ensures) _ refl _ (rw (t .before .before .nobody .ensures) refl) _
-    (c .before .before .before .before .before .before .before .before .before .before .before .before .is-parent .ensures ∙ ap isParent (c .before .before .before .before .before .before .before .before .before .before .before .before .before .column-before .ensures)) _ (c .before .before .before .before .before .before .before .before .new .ensures) _ (c .before .before .before .before .before .before .before .need-link-line .ensures) _ (q .k)
-    (omega (arith, q .inv .upto, c .before .before .before .before .loop2-test .left)) (q .inv .stored) _ _ (c .before .before .before .before .before .before .before .before .before .before .before .before .before .before .before .before .before .before .before .before .before .before .before .before .is-head .ensures) (c .before .before .separator-line .ensures) _ (c .before .ended .ensures)
+    let q = c .before .before .before .before .before in
+    row-done (a .shaper) (a .node) (a .t3) _ _ _ b _ _ _ _ _ g _ (c .before .before .before .before .before .before .before .before .before .before .before .before .before .before .before .before .before .before .before .before .before .before .given-up .ensures) _ (c .before .before .before .before .before .before .before .before .before .before .before .before .before .before .before .before .before .before .before .before .before .or-else .ensures) _ refl _ (rw (t .before .before .nobody .ensures) refl) _
+    (c .before .before .before .before .before .before .before .before .before .before .before .before .before .before .before .before .before .before .is-parent .ensures ∙ ap isParent (c .before .before .before .before .before .before .before .before .before .before .before .before .before .before .before .before .before .before .before .column-before .ensures)) _ (c .before .before .before .before .before .before .before .before .before .before .before .before .before .before .new .ensures) _ (c .before .before .before .before .before .before .before .before .before .before .before .before .before .need-link-line .ensures) _ (q .loop3 .k)
+    (omega (arith, c .before .before .before .before .loop3-test .left, q .before .before .reach-end .ensures)) (q .loop3 .inv) _ _ (c .before .before .before .before .before .before .before .before .before .before .before .before .before .before .before .before .before .before .before .before .before .before .before .before .before .before .before .before .before .before .is-head .ensures) (c .before .before .separator-line .ensures) _ (c .before .ended .ensures)
 
 pub next-row-shape-spec : {M : Type 1} → statement M
 next-row-shape-spec =
@@ -349,6 +445,8 @@ next-row-shape-spec =
     μ-loop
     Inv-loop2
     μ-loop2
+    Inv-loop3
+    μ-loop3
     are-too-many-requires
     refused-row-requires
     returns
@@ -408,20 +506,35 @@ next-row-shape-spec =
     array-set-from-parents-3
     new-requires
     need-link-line-requires
+    plain-cell-requires
+    plain-cell-requires-2
     blank-requires
     loop2-holds
+    mul-shown-slot
+    array-copy-out-shown-slot
+    shown-requires
+    mul-cells
+    array-set-from-cells
+    add-p
+    loop2-less
+    loop2-again
+    reach-end-requires
+    reach-start-requires
+    loop3-holds
     mul-bare
     array-copy-out-bare
     column-before-requires-2
     mul-settled
     array-copy-out-settled
-    array-copy-out-parent
+    array-copy-out-met
+    mul-plain
+    array-copy-out-plain
     cell-requires
-    mul-cells
-    array-set-from-cells
+    mul-cells-2
+    array-set-from-cells-2
     add-k
-    loop2-less
-    loop2-again
+    loop3-less
+    loop3-again
     separator-line-requires
     ended-requires
     returns-4)

@@ -1,7 +1,7 @@
--- The cell of a column that the row reaches.
+-- The cell of a column in which something of the row ends.
 use borrow.Author.Needs.{needs}
-use Rattle.cells.proofs.reached_cell.Statement.{statement}
-use Rattle.cells.proofs.reached_cell.Tie as tie
+use Rattle.cells.proofs.ended_cell.Statement.{statement}
+use Rattle.cells.proofs.ended_cell.Tie as tie
 use Rattle.cells.proofs.CellLaws.{cell-done}
 
 from-node-requires : tie.Need-from-node-requires
@@ -38,8 +38,8 @@ returns c =
     cell-done (a .need-link-line) (a .bounds) (a .swap) (a .index) (a .drawn) (a .before) (a .settled) _ _ _ _ _ _ _ _ _ (m .before .before .from-node .ensures) (m .before .is-at .ensures) (m .with-uprights .ensures) (c .before .before .before .before .before .node-cell .ensures)
     (c .before .before .before .before .link-cell .ensures) (c .before .before .before .link-cell2 .ensures) (c .before .before .column-to-pad-line .ensures) (c .before .is-anonymous .ensures) (c .is-drawn .ensures)
 
-pub reached-cell-spec : {M : Type 1} → statement M
-reached-cell-spec =
+pub ended-cell-spec : {M : Type 1} → statement M
+ended-cell-spec =
     tie.close
     (tie.spec
     from-node-requires
