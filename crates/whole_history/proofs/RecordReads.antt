@@ -9,11 +9,11 @@ use lib.ListN.{length, getD, set, length-map, List·getD-eq-default}
 use Rattle.render.specs.declared.render.Ancestor.{Ancestor}
 use Rattle.render.specs.declared.render.Entry.{Entry}
 use Rattle.render.specs.declared.render.Entries.{Entries}
-use Rattle.render.specs.Entries.{entryLimit, pushed}
+use Rattle.render.specs.Entries.{entryLimit, listed, pushed}
 use Rattle.glyphs.specs.declared.Renderer.the-variants.{Ascii, AsciiLarge, Square, Curved, Dec}
 use Rattle.record.specs.Record.{parentCount, parentLimit, idAt, entryPlace, writtenAt, writtenFrom, entryOf}
 use Rattle.record.specs.Promises.{entry, entriesWith}
-use Rattle.record.proofs.RecordLaws.{written-length, entries-next}
+use Rattle.record.proofs.RecordLaws.{written-length, entries-next, listed-with}
 use Rattle.whole_history.specs.Whole.{entriesOf, rendererOf}
 
 -- the first entries
@@ -24,8 +24,13 @@ first-length : (s : List ℕ) (n : ℕ) → length (first s n) ≡ n
 first-length s n = length-map (writtenFrom s 0 n) entryOf ∙ written-length s 0 n
 
 -- a record has at most eight
-pub entries-few : (s : List ℕ) → length (entriesOf s) ≤ entryLimit
+entries-few : (s : List ℕ) → length (entriesOf s) ≤ entryLimit
 entries-few s = omega (arith, first-length s (min (parentCount s) parentLimit))
+
+-- what the struct that holds them stands for: a list that is never too long
+module _ (s : List ℕ) {es : Entries} (e : es ≡ entriesWith (entriesOf s)) where
+  pub listed-read : listed es ≡ entriesOf s
+  listed-read = ap listed e ∙ listed-with (entriesOf s) (entries-few s)
 
 -- one entry more in the array
 pub list-next : (s : List ℕ) (i : ℕ) {l : List Entry} {a : Ancestor} {k : ℕ} → l ≡ entriesWith (first s i) .list

@@ -17,7 +17,7 @@ use Rattle.glyphs.specs.Joins.{joins, over}
 use Rattle.glyphs.proofs.JoinLaws.{joins-append}
 use Rattle.glyphs.proofs.OverLaws.{part-written}
 use Rattle.whole_history.specs.Shapes.{cellBytes, headBytes, shapeBytes, nodeBytes}
-use Rattle.whole_history.specs.Promises.{Put}
+use Rattle.whole_history.specs.Inner.{PutIn}
 
 -- a shape's array has 64 cells
 pub cells-long : (l : List Cell) → length (map (the-type .to) l) ≡ columnLimit → length l ≡ columnLimit
@@ -83,13 +83,13 @@ module _ (g : RowShape) where
           rw (length-append (headBytes g) (joins cellBytes (take (g .width) (g .cells))), head-length g, cells-length (take (g .width) (g .cells)), length-take (g .width) (g .cells))
           (omega arith)
 
-      pub no-room : (d : List ℕ) → length d < 12 + 8 * w → Put (shapeBytes g) d d 0
+      pub no-room : (d : List ℕ) → length d < 12 + 8 * w → PutIn (shapeBytes g) d d 0
       no-room d h =
           let l : length d < length (shapeBytes g) = omega (arith, shape-length) in
           record { count = rw (lt-leb (length (shapeBytes g)) (length d) l) refl; output = rw (lt-leb (length (shapeBytes g)) (length d) l) refl }
 
       pub shape-done : (i : ℕ) (d : List ℕ) {h o bs : List ℕ} → bs ≡ headBytes g → h ≡ over bs d → o ≡ over (upTo g i) h → i ≡ w → 12 + 8 * w ≤ length d
-          → Put (shapeBytes g) d o (12 + 8 * w)
+          → PutIn (shapeBytes g) d o (12 + 8 * w)
       shape-done i d {h} {o} b e f k r =
           let l : length (shapeBytes g) ≤ length d = omega (arith, shape-length) in
           record {
@@ -110,7 +110,7 @@ module _ (g : RowShape) where
                   take-all i (g .cells) (omega arith) ∙ sym (take-all (g .width) (g .cells) (omega arith))
 
 -- ---- bytes that were put, or were not
-module _ {bs before after : List ℕ} {r : ℕ} (p : Put bs before after r) where
+module _ {bs before after : List ℕ} {r : ℕ} (p : PutIn bs before after r) where
   pub put-none : r ≡ 0 → 0 < length bs → (length before < length bs) × (after ≡ before)
   put-none e h = go (leb (length bs) (length before)) refl
     where

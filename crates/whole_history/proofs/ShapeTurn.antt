@@ -22,14 +22,13 @@ use Rattle.glyphs.specs.Joins.{over}
 use Rattle.glyphs.proofs.OverLaws.{length-over, part-room}
 use Rattle.record.specs.Record.{recordLength, idAt}
 use Rattle.record.specs.Promises.{entriesWith}
-use Rattle.record.proofs.RecordLaws.{listed-with}
 use Rattle.steps.specs.declared.Progress.{Progress}
 use Rattle.steps.specs.Steps.{ProgressView, beginning}
 use Rattle.steps.specs.Promises.{progressViewOf}
 use Rattle.whole_history.specs.Shapes.{cellBytes, shapeBytes, nodeBytes}
 use Rattle.whole_history.specs.Whole.{entriesOf, State, placeAfter, rowsOf, shapeStep, wholeShapes}
-use Rattle.whole_history.specs.Promises.{Put}
-use Rattle.whole_history.proofs.RecordReads.{entries-few}
+use Rattle.whole_history.specs.Inner.{PutIn}
+use Rattle.whole_history.proofs.RecordReads.{listed-read}
 use Rattle.whole_history.proofs.RunLaws.{place-kept, place-left, part-lent, part-back, part-same, left, left-first, recordAt, run-ends, run-goes, run-stops}
 use Rattle.whole_history.proofs.ShapeLaws.{cell-length, shape-some, put-none, put-done, node-cell, node-none}
 
@@ -51,9 +50,8 @@ module _ (s : Shaper) (kept : Bool) (from : ℕ) (out b : List ℕ) (g : RowAnsw
       (some (record { view = r .view; text = beginning .text; from = placeAfter kept from (length (bytesOf kept (r .shape))); output = take from out ++ over (bytesOf kept (r .shape)) (drop from out) }))
       none
 
-  -- a record's entries are never too many
   replied : rowReplyOf g ≡ row (viewOf s) (idAt b 0) (entriesOf b)
-  replied = u .reply ∙ rw (i, e, listed-with (entriesOf b) (entries-few b)) refl
+  replied = u .reply ∙ rw (i, listed-read b e) refl
 
   step-is : shapeStep kept (stateOf s from out) b ≡ stepBy (rowReplyOf g)
   step-is = ap stepBy (sym replied)
@@ -78,7 +76,7 @@ pub record ShapesLeft (records : List ℕ) (kept : Bool) (out₀ : List ℕ) (s 
   pub long : length out ≡ length out₀
   pub rest : rowsOf (shapeStep kept) rows (left records rows) (stateOf s from out) ≡ wholeShapes records kept out₀
 
-module _ (records : List ℕ) (kept : Bool) (out₀ : List ℕ) where
+module _ {records : List ℕ} {kept : Bool} {out₀ : List ℕ} where
   pub shapes-begin : (p : Progress) → progressViewOf p ≡ beginning → ShapesLeft records kept out₀ (p .shaper) 0 0 out₀
   unfolding wholeShapes
   shapes-begin p e =
@@ -89,11 +87,11 @@ module _ (records : List ℕ) (kept : Bool) (out₀ : List ℕ) where
         rest = ap (λ (v : ProgressView). rowsOf (shapeStep kept) 0 (left records 0) (record { view = v .view; text = beginning .text; from = 0; output = out₀ })) e ∙ rw (left-first records) refl;
       }
 
-  module _ {s : Shaper} (from rows : ℕ) (out : List ℕ) (l : ShapesLeft records kept out₀ s from rows out) where
+  module _ {s : Shaper} {from rows : ℕ} {out : List ℕ} (l : ShapesLeft records kept out₀ s from rows out) where
     pub shapes-end : length records - recordLength * rows < recordLength → wholeShapes records kept out₀ ≡ record { rows = rows; output = out }
     shapes-end h = run-ends (shapeStep kept) records rows (stateOf s from out) (l .rest) h
 
-    module _ (h : recordLength ≤ length records - recordLength * rows) (g : RowAnswer) {n : ℕ} {es : Entries}
+    module _ (h : recordLength ≤ length records - recordLength * rows) {g : RowAnswer} {n : ℕ} {es : Entries}
         (i : n ≡ idAt (recordAt records rows) 0) (e : es ≡ entriesWith (entriesOf (recordAt records rows))) (u : Rows s n es g) where
       abbrev b : List ℕ
       b = recordAt records rows
@@ -127,7 +125,7 @@ module _ (records : List ℕ) (kept : Bool) (out₀ : List ℕ) where
             }
 
         -- the shapes are kept
-        module _ (t : kept ≡ true) {p : List ℕ} {r : ℕ} (w : Put (shapeBytes (g .shape)) lent p r) where
+        module _ (t : kept ≡ true) {p : List ℕ} {r : ℕ} (w : PutIn (shapeBytes (g .shape)) lent p r) where
           bytes-kept : bytesOf kept (g .shape) ≡ shapeBytes (g .shape)
           bytes-kept = rw t refl
 

@@ -1,4 +1,4 @@
 -- What the contracts of the whole histories name.
 pub mod Shapes
 pub mod Whole
-pub mod Promises
+pub mod Inner

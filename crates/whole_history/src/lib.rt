@@ -7,7 +7,7 @@ ghost use Rattle.record.specs.Record.{recordLength, idAt, entryOf};
 ghost use Rattle.record.specs.Promises.{entriesWith};
 ghost use Rattle.whole_history.specs.Shapes.{flag as flagOf, nodeNumber, padNumber, cellBytes, headBytes, shapeBytes};
 ghost use Rattle.whole_history.specs.Whole.{entriesOf, rendererOf, wholeText, wholeShapes};
-ghost use Rattle.whole_history.specs.Promises.{Put};
+ghost use Rattle.whole_history.specs.Inner.{PutIn};
 use column::COLUMN_LIMIT;
 use glyphs::Renderer;
 use record::PARENT_LIMIT;
@@ -206,7 +206,7 @@ fn write_bytes(out: &mut [u8], bytes: &[u8])
 
 // Writes a shape where there is room for it, the row's bytes and then each cell's, and gives their count; else writes nothing and gives 0.
 fn write_shape(out: &mut [u8], shape: RowShape) -> usize
-    ensures { λ r. ⌜ Put (shapeBytes shape) (now (out .entry)) (now (out .exit)) r ⌝ }
+    ensures { λ r. ⌜ PutIn (shapeBytes shape) (now (out .entry)) (now (out .exit)) r ⌝ }
 {
     let width = at_most(shape.width, COLUMN_LIMIT);
     let size = HEAD + CELL * width;

@@ -24,7 +24,7 @@ begin-requires c κs = search needs
 loop-holds : tie.Need-loop-holds Inv-loop μ-loop
 loop-holds c =
     let begun = c .before .begin in
-    shapes-begin _ _ _ (begun .result) (begun .ensures .reply)
+    shapes-begin (begun .result) (begun .ensures .reply)
 
 mul-loop : tie.Need-mul-loop Inv-loop μ-loop
 mul-loop c = search needs
@@ -67,7 +67,7 @@ returns c =
     let call = c .before .before in
     let read = call .before .before in
     let l = read .before .before .before .loop in
-    shapes-refused _ _ _ (l .from) (l .rows) (l .out) (l .inv) (read .before .before .loop-test .taken) (call .next-row-shape .result) (read .id-at .ensures) (call .before .entries-of .ensures) (call .next-row-shape .ensures) (c .if1 .taken)
+    shapes-refused (l .inv) (read .before .before .loop-test .taken) (read .id-at .ensures) (call .before .entries-of .ensures) (call .next-row-shape .ensures) (c .if1 .taken)
 
 sub-write-shape : tie.Need-sub-write-shape Inv-loop μ-loop
 sub-write-shape c = search needs
@@ -89,7 +89,7 @@ returns-2 c =
     let call = c .before .before .before .before .before .before .before .before .before .before in
     let read = call .before .before in
     let l = read .before .before .before .loop in
-    kept-full _ _ _ (l .from) (l .rows) (l .out) (l .inv) (read .before .before .loop-test .taken) (call .next-row-shape .result) (read .id-at .ensures) (call .before .entries-of .ensures) (call .next-row-shape .ensures) (c .before .before .before .before .before .before .before .before .if1 .left) (c .before .before .before .before .before .if2 .taken) (c .before .before .before .write-shape .ensures) (c .if3 .taken)
+    kept-full (l .inv) (read .before .before .loop-test .taken) (read .id-at .ensures) (call .before .entries-of .ensures) (call .next-row-shape .ensures) (c .before .before .before .before .before .before .before .before .if1 .left) (c .before .before .before .before .before .if2 .taken) (c .before .before .before .write-shape .ensures) (c .if3 .taken)
 
 add-from : tie.Need-add-from Inv-loop μ-loop
 add-from c =
@@ -97,7 +97,7 @@ add-from c =
     let read = call .before .before in
     let l = read .before .before .before .loop in
     let start = read .before .before .before .before .before .before .before .before in
-    let f = kept-fits _ _ _ (l .from) (l .rows) (l .out) (l .inv) (read .before .before .loop-test .taken) (call .next-row-shape .result) (read .id-at .ensures) (call .before .entries-of .ensures) (call .next-row-shape .ensures) (c .before .before .before .before .before .before .before .before .if1 .left) (c .before .before .before .before .before .if2 .taken) (c .before .before .before .write-shape .ensures) (c .if3 .left) in
+    let f = kept-fits (l .inv) (read .before .before .loop-test .taken) (read .id-at .ensures) (call .before .entries-of .ensures) (call .next-row-shape .ensures) (c .before .before .before .before .before .before .before .before .if1 .left) (c .before .before .before .before .before .if2 .taken) (c .before .before .before .write-shape .ensures) (c .if3 .left) in
     let k = start .good .1 .1 .0 in
     record { fits = omega (arith, f, l .inv .long, k) }
 
@@ -113,7 +113,7 @@ returns-3 c =
     let read = call .before .before in
     let l = read .before .before .before .loop in
     let cells = call .next-row-shape .ok .1 .1 .1 .0 .1 .1 .1 .1 .1 .1 .1 .1 .1 .1 .1 .1 .0 in
-    node-full _ _ _ (l .from) (l .rows) (l .out) (l .inv) (read .before .before .loop-test .taken) (call .next-row-shape .result) (read .id-at .ensures) (call .before .entries-of .ensures) (call .next-row-shape .ensures) (c .before .before .before .before .before .if1 .left) (c .before .before .if2 .left) (cells-long (call .next-row-shape .result .shape .cells) (cells .1 .0 .1)) blankCell (c .before .if4 .taken) (c .if5 .taken)
+    node-full (l .inv) (read .before .before .loop-test .taken) (read .id-at .ensures) (call .before .entries-of .ensures) (call .next-row-shape .ensures) (c .before .before .before .before .before .if1 .left) (c .before .before .if2 .left) (cells-long (call .next-row-shape .result .shape .cells) (cells .1 .0 .1)) blankCell (c .before .if4 .taken) (c .if5 .taken)
 
 mul-cell-bytes : tie.Need-mul-cell-bytes Inv-loop μ-loop
 mul-cell-bytes c = search needs
@@ -147,7 +147,7 @@ loop-again c =
     let call = c .before .before .before .before .before .before .before .before .before .before in
     let read = call .before .before in
     let l = read .before .before .before .loop in
-    kept-goes _ _ _ (l .from) (l .rows) (l .out) (l .inv) (read .before .before .loop-test .taken) (call .next-row-shape .result) (read .id-at .ensures) (call .before .entries-of .ensures) (call .next-row-shape .ensures) (c .before .before .before .before .before .before .before .before .if1 .left) (c .before .before .before .before .before .if2 .taken) (c .before .before .before .write-shape .ensures) (c .if3 .left)
+    kept-goes (l .inv) (read .before .before .loop-test .taken) (read .id-at .ensures) (call .before .entries-of .ensures) (call .next-row-shape .ensures) (c .before .before .before .before .before .before .before .before .if1 .left) (c .before .before .before .before .before .if2 .taken) (c .before .before .before .write-shape .ensures) (c .if3 .left)
 
 loop-less-2 : tie.Need-loop-less-2 Inv-loop μ-loop
 loop-less-2 c = search needs
@@ -159,7 +159,7 @@ loop-again-2 c =
     let l = read .before .before .before .loop in
     let cells = call .next-row-shape .ok .1 .1 .1 .0 .1 .1 .1 .1 .1 .1 .1 .1 .1 .1 .1 .1 .0 in
     let room = c .before .before .before .before .before .before .before in
-    node-goes _ _ _ (l .from) (l .rows) (l .out) (l .inv) (read .before .before .loop-test .taken) (call .next-row-shape .result) (read .id-at .ensures) (call .before .entries-of .ensures) (call .next-row-shape .ensures) (room .before .before .before .before .before .if1 .left) (room .before .before .if2 .left) (cells-long (call .next-row-shape .result .shape .cells) (cells .1 .0 .1)) _ (room .before .if4 .taken) (room .if5 .left) (c .before .before .before .before .before .cell-bytes .ensures) (c .before .before .write-bytes .ensures)
+    node-goes (l .inv) (read .before .before .loop-test .taken) (read .id-at .ensures) (call .before .entries-of .ensures) (call .next-row-shape .ensures) (room .before .before .before .before .before .if1 .left) (room .before .before .if2 .left) (cells-long (call .next-row-shape .result .shape .cells) (cells .1 .0 .1)) _ (room .before .if4 .taken) (room .if5 .left) (c .before .before .before .before .before .cell-bytes .ensures) (c .before .before .write-bytes .ensures)
 
 loop-less-3 : tie.Need-loop-less-3 Inv-loop μ-loop
 loop-less-3 c = search needs
@@ -170,7 +170,7 @@ loop-again-3 c =
     let read = call .before .before in
     let l = read .before .before .before .loop in
     let cells = call .next-row-shape .ok .1 .1 .1 .0 .1 .1 .1 .1 .1 .1 .1 .1 .1 .1 .1 .1 .0 in
-    node-absent _ _ _ (l .from) (l .rows) (l .out) (l .inv) (read .before .before .loop-test .taken) (call .next-row-shape .result) (read .id-at .ensures) (call .before .entries-of .ensures) (call .next-row-shape .ensures) (c .before .before .before .before .if1 .left) (c .before .if2 .left) (cells-long (call .next-row-shape .result .shape .cells) (cells .1 .0 .1)) (c .if4 .left)
+    node-absent (l .inv) (read .before .before .loop-test .taken) (read .id-at .ensures) (call .before .entries-of .ensures) (call .next-row-shape .ensures) (c .before .before .before .before .if1 .left) (c .before .if2 .left) (cells-long (call .next-row-shape .result .shape .cells) (cells .1 .0 .1)) (c .if4 .left)
 
 same-length-4 : tie.Need-same-length-4 Inv-loop μ-loop
 same-length-4 c = search needs
@@ -178,7 +178,7 @@ same-length-4 c = search needs
 returns-4 : tie.Need-returns-4 Inv-loop μ-loop
 returns-4 c =
     let l = c .before .loop in
-    shapes-end _ _ _ (l .from) (l .rows) (l .out) (l .inv) (c .loop-test .left)
+    shapes-end (l .inv) (c .loop-test .left)
 
 pub whole-history-shapes-spec : {M : Type 1} → statement M
 whole-history-shapes-spec =

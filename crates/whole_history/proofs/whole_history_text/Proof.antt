@@ -1,5 +1,6 @@
 -- `whole_history::whole_history_text` meets its contract. The loop's invariant: what is left to do from here gives the whole.
 use Prim.Native.Nat.{_*_, _-_}
+use mathlib.Core.Path.{refl}
 use native.Mathlib.Omega.{arith}
 use borrow.Author.Needs.{needs}
 use lib.ListN.{length}
@@ -26,7 +27,7 @@ begin-requires c κs = search needs
 loop-holds : tie.Need-loop-holds Inv-loop μ-loop
 loop-holds c =
     let begun = c .before .before in
-    text-begins _ _ _ _ _ (begun .begin .result) (begun .begin .ensures .reply) (begun .before .renderer-of .ensures)
+    text-begins (begun .begin .result) (begun .begin .ensures .reply) (begun .before .renderer-of .ensures)
 
 mul-loop : tie.Need-mul-loop Inv-loop μ-loop
 mul-loop c = search needs
@@ -82,7 +83,7 @@ returns c =
     let read = call .before .before .before .before in
     let top = read .before .before .before in
     let l = top .loop in
-    text-stops _ _ _ _ _ (l .from) (l .rows) (l .out) (l .inv) (read .before .before .loop-test .taken) (call .write-next-text .result) (read .id-at .ensures) (call .before .before .before .entries-of .ensures) (call .write-next-text .ensures) (c .if1 .taken)
+    text-stops (l .inv) (read .before .before .loop-test .taken) (read .id-at .ensures) (call .before .before .before .entries-of .ensures) (call .write-next-text .ensures) refl (c .if1 .taken)
 
 add-from : tie.Need-add-from Inv-loop μ-loop
 add-from c =
@@ -90,7 +91,7 @@ add-from c =
     let read = call .before .before .before .before in
     let top = read .before .before .before in
     let l = top .loop in
-    let f = text-fits _ _ _ _ _ (l .from) (l .rows) (l .out) (l .inv) (read .before .before .loop-test .taken) (call .write-next-text .result) (read .id-at .ensures) (call .before .before .before .entries-of .ensures) (call .write-next-text .ensures) (call .write-next-text .kept .1 .1 .1 .1 .1 .1 .1 .0) (c .before .before .before .before .if1 .left) in
+    let f = text-fits (l .inv) (read .before .before .loop-test .taken) (read .id-at .ensures) (call .before .before .before .entries-of .ensures) (call .write-next-text .ensures) refl (call .write-next-text .kept .1 .1 .1 .1 .1 .1 .1 .0) (c .before .before .before .before .if1 .left) in
     let start = top .before .before .before .before .before .before .before .before in
     let k = start .good .1 .1 .1 .1 .0 in
     record { fits = omega (arith, f, l .inv .long, k) }
@@ -104,7 +105,7 @@ loop-again c =
     let read = call .before .before .before .before in
     let top = read .before .before .before in
     let l = top .loop in
-    text-goes _ _ _ _ _ (l .from) (l .rows) (l .out) (l .inv) (read .before .before .loop-test .taken) (call .write-next-text .result) (read .id-at .ensures) (call .before .before .before .entries-of .ensures) (call .write-next-text .ensures) _ (call .write-next-text .kept .1 .1 .1 .1 .1 .1 .1 .0) (c .before .before .before .before .if1 .left) (place-kept _ (l .from) _ (c .before .if2 .taken)) (omega arith)
+    text-goes (l .inv) (read .before .before .loop-test .taken) (read .id-at .ensures) (call .before .before .before .entries-of .ensures) (call .write-next-text .ensures) refl _ (call .write-next-text .kept .1 .1 .1 .1 .1 .1 .1 .0) (c .before .before .before .before .if1 .left) (place-kept _ (l .from) _ (c .before .if2 .taken)) (omega arith)
 
 loop-less-2 : tie.Need-loop-less-2 Inv-loop μ-loop
 loop-less-2 c = search needs
@@ -115,7 +116,7 @@ loop-again-2 c =
     let read = call .before .before .before .before in
     let top = read .before .before .before in
     let l = top .loop in
-    text-goes _ _ _ _ _ (l .from) (l .rows) (l .out) (l .inv) (read .before .before .loop-test .taken) (call .write-next-text .result) (read .id-at .ensures) (call .before .before .before .entries-of .ensures) (call .write-next-text .ensures) _ (call .write-next-text .kept .1 .1 .1 .1 .1 .1 .1 .0) (c .before .before .before .if1 .left) (place-left _ (l .from) _ (c .if2 .left)) (omega arith)
+    text-goes (l .inv) (read .before .before .loop-test .taken) (read .id-at .ensures) (call .before .before .before .entries-of .ensures) (call .write-next-text .ensures) refl _ (call .write-next-text .kept .1 .1 .1 .1 .1 .1 .1 .0) (c .before .before .before .if1 .left) (place-left _ (l .from) _ (c .if2 .left)) (omega arith)
 
 same-length-2 : tie.Need-same-length-2 Inv-loop μ-loop
 same-length-2 c = search needs
@@ -123,7 +124,7 @@ same-length-2 c = search needs
 returns-2 : tie.Need-returns-2 Inv-loop μ-loop
 returns-2 c =
     let l = c .before .loop in
-    text-ends _ _ _ _ _ (l .from) (l .rows) (l .out) (l .inv) (c .loop-test .left)
+    text-ends (l .inv) (c .loop-test .left)
 
 pub whole-history-text-spec : {M : Type 1} → statement M
 whole-history-text-spec =

@@ -8,6 +8,6 @@ use lib.ListN.{length}
 use Rattle.glyphs.specs.Joins.{over}
 
 -- bytes are put where the output has room for all of them, and counted; else nothing is
-pub record Put (bytes before after : List ℕ) (r : ℕ) : Type 0 where
+pub record PutIn (bytes before after : List ℕ) (r : ℕ) : Type 0 where
   pub count : r ≡ cond (leb (length bytes) (length before)) (length bytes) 0
   pub output : after ≡ cond (leb (length bytes) (length before)) (over bytes before) before
