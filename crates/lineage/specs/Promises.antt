@@ -8,7 +8,6 @@ use Rattle.render.specs.declared.render.Entry.{Entry}
 use Rattle.render.specs.declared.render.Entries.{Entries}
 use Rattle.render.specs.Entries.{listed, capped}
 use Rattle.shaper.specs.declared.Shaper.{Shaper}
-use Rattle.shaper.specs.declared.Answer.{Answer}
 use Rattle.shaper.specs.Shaper.{viewOf, Reserves}
 use Rattle.row_shape.specs.Row.{RowReply, row}
 use Rattle.width.specs.declared.NewNode.{NewNode}

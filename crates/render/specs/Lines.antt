@@ -1,6 +1,5 @@
 -- The cells of a row shape, and the pad lines that renderers derive from them (types.rs; row_shape_to_prefix_lines.rs).
-use Prim.Native.Nat.{ℕ}
-use mathlib.Core.Bool.{Bool, true, false, cond}
+use mathlib.Core.Bool.{Bool, true, false}
 use mathlib.Core.List.{List, map}
 use lib.ListN.{take}
 use Rattle.render.specs.declared.render.NodeLine.{NodeLine}
