@@ -16,6 +16,8 @@ use Rattle.column.proofs.Front.{length-front, front-clamp}
 use Rattle.column.proofs.Laws.{columnOf, trim-at, live-at}
 use Rattle.column.proofs.Positions.{past-end}
 use Rattle.column.proofs.Laws.{Filled}
+use Rattle.column.specs.declared.Found.the-variants.{At}
+use Rattle.render.specs.declared.types.Options.{Options}
 use Rattle.render.specs.declared.types.DashStyle.{DashStyle}
 use Rattle.render.specs.declared.types.DashStyle.the-variants.{Persistent, Once}
 use Rattle.placing.specs.Placing.{dashed}
@@ -69,5 +71,6 @@ module _ (d : DashStyle) (given l : List Slot) (count n : ℕ) (long : length gi
           ∙ ap (λ (cs : List Column). at cs i) (sym q)
           ∙ past-end (live m l) i (rw (length-front columnOf m l) (omega arith))
 
-  pub ended-done : (m : ℕ) → m ≤ n → live m l ≡ trim (live n l) → Ends given count d (record { slots = l; count = m })
-  ended-done m h q = record { columns = q ∙ ap trim whole; fits = omega arith; rest = went m h q }
+  pub ended-done : (m column : ℕ) (o : Options) → o .«graph_row_shape_style» .«dash_style» ≡ d → m ≤ n → live m l ≡ trim (live n l)
+      → Ends given count column o (record { slots = l; count = m; «previous_node_column» = At column; options = o })
+  ended-done m column o k h q = record { columns = q ∙ ap trim whole ∙ rw k; fits = omega arith; rest = went m h q; previous = refl; options = refl }

@@ -6,13 +6,15 @@ use mathlib.Core.List.{List}
 use lib.Dec.{ltb, eqb}
 use Rattle.column.specs.declared.Column.{Column}
 use Rattle.column.specs.declared.Column.the-variants.{Empty}
+use Rattle.column.specs.declared.Found.the-variants.{At}
 use Rattle.column.specs.declared.Slot.{Slot}
 use Rattle.column.specs.Columns.{columnLimit, holds, merge, direct, unblock, reset, live, withColumn, columnAt, SpareEmpty}
 use Rattle.render.specs.declared.render.Ancestor.{Ancestor as Entry}
 use Rattle.render.specs.declared.render.Ancestor.the-variants.{Ancestor as Indirect, Parent as Direct, Anonymous}
+use Rattle.render.specs.declared.types.Options.{Options}
 use Rattle.render.specs.declared.types.DashStyle.{DashStyle}
 use Rattle.render.specs.declared.types.DashStyle.the-variants.{Persistent, Once}
-use Rattle.placing.specs.declared.Columns.{Columns}
+use Rattle.shaper.specs.declared.Shaper.{Shaper}
 use Rattle.placing.specs.Placing.{columnOf, dashed}
 
 -- whether a column holds an entry's id
@@ -34,8 +36,10 @@ abbrev pub endedColumn : DashStyle → Column → Column
 endedColumn Persistent c = unblock c
 endedColumn Once c = unblock (direct c)
 
--- what ends a row: the columns by the definitions; every slot past the count is Empty, whatever it was
-pub record Ends (slots : List Slot) (count : ℕ) (d : DashStyle) (r : Columns) : Type 0 where
-  pub columns : live (r .count) (r .slots) ≡ reset (dashed d (live count slots))
+-- what ends a row: the columns by the definitions, the node's column and the options as they are; every slot past the count is Empty, whatever it was
+pub record Ends (slots : List Slot) (count column : ℕ) (o : Options) (r : Shaper) : Type 0 where
+  pub columns : live (r .count) (r .slots) ≡ reset (dashed (o .«graph_row_shape_style» .«dash_style») (live count slots))
   pub fits : r .count ≤ columnLimit
   pub rest : SpareEmpty (r .count) (r .slots)
+  pub previous : r .«previous_node_column» ≡ At column
+  pub options : r .options ≡ o

@@ -12,12 +12,8 @@ use column::Found;
 use column::Slot;
 use render::Ancestor;
 use render::DashStyle;
-
-// Slots and their count.
-pub struct Columns {
-    pub slots: [Slot; COLUMN_LIMIT],
-    pub count: usize,
-}
+use render::Options;
+use shaper::Shaper;
 
 // The column that an entry merges as.
 fn ancestor_to_column(ancestor: Ancestor) -> Column
@@ -138,10 +134,19 @@ fn ended_column(column: Column, dash_style: DashStyle) -> Column
     }
 }
 
-// What ends a row: every column as it is after it, then Empty columns at the end go. The slots past the count are Empty.
-pub fn ended(given: [Slot; COLUMN_LIMIT], count: usize, dash_style: DashStyle) -> Columns
-    ensures { λ r. ⌜ Ends given count «dash_style» r ⌝ }
+// What ends a row: every column as it is after it, then Empty columns at the end go. Gives the shaper after a row with these columns and
+// the node in `column`; its slots past the count are Empty.
+pub fn ended(
+    given: [Slot; COLUMN_LIMIT],
+    count: usize,
+    column: usize,
+    options: Options,
+) -> Shaper
+    ensures { λ r. ⌜ Ends given count column options r ⌝ }
 {
+    let style = options.graph_row_shape_style;
+    let dash_style = style.dash_style;
+    let previous_node_column = Found::At(column);
     let n = column::live_count(count);
     let empty = Slot::empty();
     let mut slots = [empty; COLUMN_LIMIT];
@@ -149,8 +154,8 @@ pub fn ended(given: [Slot; COLUMN_LIMIT], count: usize, dash_style: DashStyle) -
     while at < n {
         let slot = given[at];
         let old = slot.column;
-        let column = ended_column(old, dash_style);
-        slots[at] = slot.with_column(column);
+        let new = ended_column(old, dash_style);
+        slots[at] = slot.with_column(new);
         at += 1;
     }
     let mut last = n;
@@ -160,8 +165,18 @@ pub fn ended(given: [Slot; COLUMN_LIMIT], count: usize, dash_style: DashStyle) -
         if end_column.is_empty() {
             last -= 1;
         } else {
-            return Columns { slots, count: last };
+            return Shaper {
+                slots,
+                count: last,
+                previous_node_column,
+                options,
+            };
         }
     }
-    Columns { slots, count: last }
+    Shaper {
+        slots,
+        count: last,
+        previous_node_column,
+        options,
+    }
 }

@@ -39,7 +39,6 @@ use Rattle.shaper.specs.declared.Shaper.{Shaper}
 use Rattle.shaper.specs.Shaper.{View, viewOf}
 use Rattle.shaper.specs.NodeColumn.{unallocated, nodeColumn, headAt, head, Finds}
 use Rattle.shaper.proofs.NodeLaws.{node-in, fitting-at, fitting-none, head-held}
-use Rattle.placing.specs.declared.Columns.{Columns}
 use Rattle.placing.specs.Placing.{walk, gaveUp, swapped, Placed, placeAt, place, kindOf, drawsAt}
 use Rattle.placing.specs.Inner.{columnBefore, Ends}
 use Rattle.placing.proofs.PlacingLaws.{walk-more, opened-long, opened-is, before-is, Going, Gone, going-start, going-end, given-next, given-end}
@@ -469,16 +468,15 @@ module _ (s : Shaper) (n : ℕ) (es : Entries) (existing : Found) (c m : ℕ) (b
                 width-as (g .said-is) bounds-as swap-is need-is cells-as
 
             -- an accepted row: its shape, and the shaper after it
-            pub row-done : (e : Columns) → Ends slots count (s .options .«graph_row_shape_style» .«dash_style») e
-                → Rows s n es (record { refusal = 0; shape = shape; shaper = record { slots = e .slots; count = e .count; «previous_node_column» = At c; options = s .options } })
-            row-done e h =
+            pub row-done : (x : Shaper) → Ends slots count c (s .options) x → Rows s n es (record { refusal = 0; shape = shape; shaper = x })
+            row-done x h =
                 record {
                   reply =
-                      reply-same 0 shape (shapeAt (viewOf s) n rs p) _ (rowAfter (viewOf s) p) shape-is (rw (h .columns, settled-is))
+                      reply-same 0 shape (shapeAt (viewOf s) n rs p) _ (rowAfter (viewOf s) p) shape-is (rw (h .columns, h .previous, h .options, settled-is))
                       ∙ sym (accept (viewOf s) n rs c bs (b .place) (bare-is s n es existing c m b) (rw (← given-is s n es existing c m b) (b .few)) (rw (← width-as) (g .fits)))
                       ∙ ap (row (viewOf s) n) (sym (given-is s n es existing c m b));
                   refused = λ z. absurd (z refl);
                   fits = λ z. h .fits;
                   rest = λ z. h .rest;
-                  options = refl;
+                  options = h .options;
                 }

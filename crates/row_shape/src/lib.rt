@@ -182,8 +182,8 @@ pub fn next_row_shape(shaper: Shaper, node: u32, entries: Entries) -> RowAnswer
         k += 1;
     }
     let style = options.graph_row_shape_style;
-    let dash_style = style.dash_style;
     let separator_line = separator_line(options, previous, existing, column, need_term_line);
+    let next = placing::ended(slots, count, column, options);
     let shape = RowShape {
         node,
         merge: 1 < n,
@@ -196,15 +196,6 @@ pub fn next_row_shape(shaper: Shaper, node: u32, entries: Entries) -> RowAnswer
         link_line: need_link_line,
         term_line: need_term_line,
         cells,
-    };
-    let columns = placing::ended(slots, count, dash_style);
-    let after = columns.slots;
-    let previous_node_column = Found::At(column);
-    let next = Shaper {
-        slots: after,
-        count: columns.count,
-        previous_node_column,
-        options,
     };
     RowAnswer {
         refusal: ACCEPTED,

@@ -1,28 +1,27 @@
--- Each slot as it is after the row, into Empty ones; then Empty columns at the end go.
+-- What ends a row: each slot as it is after the row, into Empty ones; then Empty columns at the end go.
+use borrow.Author.Needs.{needs}
 use Rattle.placing.proofs.ended.Statement.{statement}
 use Rattle.placing.proofs.ended.Tie as tie
 use Prim.Native.Nat.{ℕ, _≤_, _-_}
-use mathlib.Core.Path.{_≡_, ap, sym, _∙_}
+use mathlib.Core.Path.{_≡_, refl, ap, sym, _∙_}
 use mathlib.Core.List.{map}
 use native.Mathlib.Omega.{arith}
-use borrow.Author.Needs.{needs}
 use lib.ListN.{length, length-map}
 use Rattle.column.specs.Columns.{columnLimit, trim, live}
-use Rattle.column.proofs.Laws.{trim-turn, trim-stop, trim-done}
-use Rattle.column.proofs.Laws.{Filled, filled-start, filled-next}
+use Rattle.column.proofs.Laws.{trim-turn, trim-stop, trim-done, Filled, filled-start, filled-next}
 use Rattle.placing.proofs.EndLaws.{turned, turned-at, stored, ended-done}
 
 abbrev Inv-loop : tie.InvT-loop
-Inv-loop count dash-style given n slots₀ at₀ slots at = (at ≤ n) × (length given ≡ columnLimit) × Filled (map (turned dash-style) given) at slots
+Inv-loop count column options given dash-style previous-node-column n slots₀ at₀ slots at = (at ≤ n) × (length given ≡ columnLimit) × Filled (map (turned (options .«graph_row_shape_style» .«dash_style»)) given) at slots
 
 abbrev μ-loop : tie.MeasureT-loop
-μ-loop count dash-style given n slots₀ at₀ slots at = n - at
+μ-loop count column options given dash-style previous-node-column n slots₀ at₀ slots at = n - at
 
 abbrev Inv-loop2 : tie.InvT-loop2
-Inv-loop2 count n slots at last₀ last = (last ≤ at) × (length slots ≡ columnLimit) × (trim (live last slots) ≡ trim (live at slots))
+Inv-loop2 count column options previous-node-column n slots at last₀ last = (last ≤ at) × (length slots ≡ columnLimit) × (trim (live last slots) ≡ trim (live at slots))
 
 abbrev μ-loop2 : tie.MeasureT-loop2
-μ-loop2 count n slots at last₀ last = last
+μ-loop2 count column options previous-node-column n slots at last₀ last = last
 
 live-count-requires : tie.Need-live-count-requires Inv-loop μ-loop Inv-loop2 μ-loop2
 live-count-requires c κs = search needs
@@ -58,18 +57,18 @@ loop-less : tie.Need-loop-less Inv-loop μ-loop Inv-loop2 μ-loop2
 loop-less c = search needs
 
 loop-again : tie.Need-loop-again Inv-loop μ-loop Inv-loop2 μ-loop2
-loop-again c =
-    let l = c .before .before .before .before in
+loop-again c = let l = c .before .before .before .before in
     let v = l .loop in
-    let a = l .before .before .before .args in (
+    let a = l .before .before .before .before .args in
+    let d = a .options .«graph_row_shape_style» .«dash_style» in
+    (
       omega arith,
       v .inv .1,
-      filled-next _ (v .slots) (v .at) _ (omega arith) (rw length-map (omega arith)) (stored (a .dash-style) _ _ _ (c .with-column .ensures) (c .before .ended-column .ensures) ∙ sym (turned-at (a .dash-style) (a .t1) (v .at) (omega arith))) (v .inv .2),
+      filled-next _ (v .slots) (v .at) _ (omega arith) (rw length-map (omega arith)) (stored d _ _ _ (c .with-column .ensures) (c .before .ended-column .ensures) ∙ sym (turned-at d (a .t1) (v .at) (omega arith))) (v .inv .2),
     )
 
 loop2-holds : tie.Need-loop2-holds Inv-loop μ-loop Inv-loop2 μ-loop2
-loop2-holds c =
-    let v = c .before .loop in
+loop2-holds c = let v = c .before .loop in
     let n = c .before .before .before .live-count .result in
     let e : n ≡ v .at = omega arith in
     (omega arith, v .inv .2 .long, ap (λ (k : ℕ). trim (live k (v .slots))) e)
@@ -93,32 +92,29 @@ loop2-less : tie.Need-loop2-less Inv-loop μ-loop Inv-loop2 μ-loop2
 loop2-less c = search needs
 
 loop2-again : tie.Need-loop2-again Inv-loop μ-loop Inv-loop2 μ-loop2
-loop2-again c =
-    let m = c .before .before .before .before in
-    let l = m .before .before in
-    let v = l .loop in
+loop2-again c = let m = c .before .before .before .before in
+    let v = m .before .before .loop in
     let w = m .loop2 in
-    let a = l .before .before .before .args in
     (omega arith, w .inv .1, trim-turn (w .last) (v .slots) (omega arith) (omega arith) (sym (c .before .is-empty .ensures) ∙ c .if1 .taken) ∙ w .inv .2)
 
 returns : tie.Need-returns Inv-loop μ-loop Inv-loop2 μ-loop2
-returns c =
-    let m = c .before .before .before .before in
+returns c = let m = c .before .before .before .before in
     let l = m .before .before in
     let v = l .loop in
     let w = m .loop2 in
-    let a = l .before .before .before .args in
-    ended-done (a .dash-style) (a .t1) (v .slots) (a .count) (v .at) (v .inv .1) (omega arith) (v .inv .2) (w .last) (w .inv .0)
+    let a = l .before .before .before .before .args in
+    let d = a .options .«graph_row_shape_style» .«dash_style» in
+    ended-done d (a .t1) (v .slots) (a .count) (v .at) (v .inv .1) (omega arith) (v .inv .2) (w .last) (a .column) (a .options) refl (w .inv .0)
     (trim-stop (w .last) (v .slots) (omega arith) (omega arith) (sym (c .before .is-empty .ensures) ∙ c .if1 .left) ∙ w .inv .2)
 
 returns-2 : tie.Need-returns-2 Inv-loop μ-loop Inv-loop2 μ-loop2
-returns-2 c =
-    let m = c .before in
+returns-2 c = let m = c .before in
     let l = m .before .before in
     let v = l .loop in
     let w = m .loop2 in
-    let a = l .before .before .before .args in
-    ended-done (a .dash-style) (a .t1) (v .slots) (a .count) (v .at) (v .inv .1) (omega arith) (v .inv .2) (w .last) (w .inv .0)
+    let a = l .before .before .before .before .args in
+    let d = a .options .«graph_row_shape_style» .«dash_style» in
+    ended-done d (a .t1) (v .slots) (a .count) (v .at) (v .inv .1) (omega arith) (v .inv .2) (w .last) (a .column) (a .options) refl (w .inv .0)
     (trim-done (w .last) (v .slots) (omega arith) ∙ w .inv .2)
 
 pub ended-spec : {M : Type 1} → statement M

@@ -115,7 +115,8 @@ loop-holds : tie.Need-loop-holds Inv-loop μ-loop Inv-loop2 μ-loop2 Inv-loop3 �
 loop-holds c = let f = c .before .before .before .before .before .before .before .before .before .before in
     let a = f .before .before .before .before .before .before .before .args in
     let b = begun (a .shaper) (a .node) (a .t3) _ _ _ _ (sym (f .before .before .before .before .before .before .are-too-many .ensures) ∙ f .before .before .before .before .before .if1 .left) (f .before .find .ensures) (f .find-column .ensures) (c .before .before .before .before .before .before .before .before .column .given .1) (f .before .before .live-count .ensures)
-    (slots-long (a .shaper .slots) (f .before .before .before .before .before .before .before .good .0 .1 .1 .0 .1 .0 .1)) (entries-long (a .t3 .list) (f .before .before .before .before .before .before .before .good .1 .1 .0 .1 .1 .0 .1 .0 .1)) in (
+        (slots-long (a .shaper .slots) (f .before .before .before .before .before .before .before .good .0 .1 .1 .0 .1 .0 .1)) (entries-long (a .t3 .list) (f .before .before .before .before .before .before .before .good .1 .1 .0 .1 .1 .0 .1 .0 .1)) in
+    (
       omega arith,
       b,
       rw (c .before .before .empty2 .ensures, c .before .before .before .empty .ensures)
@@ -196,7 +197,8 @@ loop-again c = let l = c .before .before .before .before .before .before .before
     let a = l .before .before .before .before .before .before .before .before .before .before .before .before .before .before .before .before .before .before .args in
     let b = v .inv .1 in
     let bs = bare (a .shaper) (a .node) (a .t3) _ _ _ b in
-    let h = c .before .before .before .before .before .before .before .before .loop-test .taken in (
+    let h = c .before .before .before .before .before .before .before .before .loop-test .taken in
+    (
       omega (arith, h),
       b,
       going-next bs _ (given (a .t3)) (v .i) (v .slots) (v .count) (v .parents) (v .parent-column) (v .need-term-line) (v .inv .2) _ (entry-next (a .shaper) (a .node) (a .t3) _ _ _ b (v .i) _ h) _ (c .before .before .before .before .before .before .parent-column .ensures) (omega (arith, c .before .before .before .before .before .if2 .left)) _ (c .before .before .count-with2 .ensures) _ (c .before .before .before .entered .ensures) _ (c .before .drawn-by .ensures) _ (c .is-anonymous .ensures),
@@ -427,15 +429,17 @@ ended-requires : tie.Need-ended-requires Inv-loop μ-loop Inv-loop2 μ-loop2 Inv
 ended-requires c κs = search needs
 
 returns-4 : tie.Need-returns-4 Inv-loop μ-loop Inv-loop2 μ-loop2 Inv-loop3 μ-loop3
-returns-4 c = let t = c .before .before .before .before .before .before .before .before .before .before .before .before .before .before .before .before .before .before .before .before .before .before .before in
+returns-4 c = let q = c .before .before .before .before in
+    let drawn = q .before .before .before .before .before .before .before .before in
+    let swapped = drawn .before .before .before .before .before in
+    let t = swapped .before .before .before .before .before in
     let v = t .before .loop in
     let a = t .before .before .before .before .before .before .before .before .before .before .before .before .before .before .before .before .before .before .before .args in
     let b = v .inv .1 in
     let g = row-walked (a .shaper) (a .node) (a .t3) _ _ _ b _ _ _ _ _ _ (v .inv .2) (t .loop-test .left) in
-    let q = c .before .before .before .before .before in
-    row-done (a .shaper) (a .node) (a .t3) _ _ _ b _ _ _ _ _ g _ (c .before .before .before .before .before .before .before .before .before .before .before .before .before .before .before .before .before .before .before .before .before .before .given-up .ensures) _ (c .before .before .before .before .before .before .before .before .before .before .before .before .before .before .before .before .before .before .before .before .before .or-else .ensures) _ refl _ (rw (t .before .before .nobody .ensures) refl) _
-    (c .before .before .before .before .before .before .before .before .before .before .before .before .before .before .before .before .before .before .is-parent .ensures ∙ ap isParent (c .before .before .before .before .before .before .before .before .before .before .before .before .before .before .before .before .before .before .before .column-before .ensures)) _ (c .before .before .before .before .before .before .before .before .before .before .before .before .before .before .new .ensures) _ (c .before .before .before .before .before .before .before .before .before .before .before .before .before .need-link-line .ensures) _ (q .loop3 .k)
-    (omega (arith, c .before .before .before .before .loop3-test .left, q .before .before .reach-end .ensures)) (q .loop3 .inv) _ _ (c .before .before .before .before .before .before .before .before .before .before .before .before .before .before .before .before .before .before .before .before .before .before .before .before .before .before .before .before .before .before .is-head .ensures) (c .before .before .separator-line .ensures) _ (c .before .ended .ensures)
+    row-done (a .shaper) (a .node) (a .t3) _ _ _ b _ _ _ _ _ g _ (swapped .before .before .before .before .given-up .ensures) _ (swapped .before .before .before .or-else .ensures) _ refl _ (rw (t .before .before .nobody .ensures) refl) _
+    (swapped .is-parent .ensures ∙ ap isParent (swapped .before .column-before .ensures)) _ (drawn .before .new .ensures) _ (drawn .need-link-line .ensures) _ (q .loop3 .k)
+    (omega (arith, c .before .before .before .loop3-test .left, q .before .before .reach-end .ensures)) (q .loop3 .inv) _ _ (t .before .before .before .before .before .before .before .is-head .ensures) (c .before .separator-line .ensures) _ (c .ended .ensures)
 
 pub next-row-shape-spec : {M : Type 1} → statement M
 next-row-shape-spec =
