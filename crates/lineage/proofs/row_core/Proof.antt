@@ -1,3 +1,4 @@
+-- `row_core` meets its contract.
 use borrow.Author.Needs.{needs}
 use Rattle.lineage.proofs.row_core.Statement.{statement}
 use Rattle.lineage.proofs.row_core.Tie as tie

@@ -1,3 +1,4 @@
+-- `page_row` meets its contract.
 use native.Mathlib.Omega.{arith}
 use Rattle.steps.proofs.StepLaws.{page-stops, page-goes, message-long, front-is}
 use borrow.Author.Needs.{needs}

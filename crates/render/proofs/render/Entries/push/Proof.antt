@@ -1,3 +1,4 @@
+-- `push` meets its contract.
 use borrow.Author.Needs.{needs}
 use Rattle.render.proofs.render.Entries.push.Statement.{statement}
 use Rattle.render.proofs.render.Entries.push.Tie as tie

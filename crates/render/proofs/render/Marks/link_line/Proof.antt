@@ -1,3 +1,4 @@
+-- `link_line` meets its contract.
 use borrow.Author.Needs.{needs}
 use Rattle.render.proofs.render.Marks.link_line.Statement.{statement}
 use Rattle.render.proofs.render.Marks.link_line.Tie as tie
