@@ -41,6 +41,8 @@ pub struct Task {
     pub built: Letters,
     pub threads: u32,
     pub seconds: Option<u64>,
+    /// Whether each refusal that a call can give has to come.
+    pub every_refusal: bool,
 }
 
 /// What came out of a comparison.
@@ -112,13 +114,20 @@ impl Findings {
 }
 
 impl Task {
-    /// Compares, prints what came out, and says whether there was no difference.
+    /// Compares, prints what came out, and says whether there was no difference and, if asked for, every refusal came.
     pub fn run(&self) -> bool {
-        let findings = self.findings();
-        if let Some(findings) = &findings {
-            findings.print();
+        let Some(findings) = self.findings() else {
+            return false;
+        };
+        findings.print();
+        let missing = findings.counts.refusals_missing();
+        if !self.every_refusal || missing.is_empty() {
+            return true;
         }
-        findings.is_some()
+        for (letter, number) in missing {
+            println!("call {letter} was never refused with {number}");
+        }
+        false
     }
 
     /// Compares; a difference is printed, and there are no findings then.

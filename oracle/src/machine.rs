@@ -128,6 +128,17 @@ impl Counts {
         self.entries.get(&(letter, length)).copied().unwrap_or(0)
     }
 
+    /// The refusals that calls of these letters can give and none has given: each its letter and number.
+    pub fn refusals_missing(&self) -> Vec<(char, u8)> {
+        let possible = refusals::OF_CALLS
+            .iter()
+            .flat_map(|(letter, numbers)| numbers.iter().map(|number| (*letter, *number)));
+        possible
+            .filter(|place| !self.refusals.contains_key(place))
+            .map(|(letter, number)| (char::from(letter), number))
+            .collect()
+    }
+
     /// How often this refusal number was given, 0 for a call that passed.
     pub fn of_refusal(&self, number: u8) -> u64 {
         self.refusals

@@ -52,14 +52,14 @@ use stream::Letters;
 /// How the program is called.
 const USAGE: &str = "usage: oracle answer [--built LETTERS]
        oracle generate N SEED [--built LETTERS]
-       oracle compare N SEED REPLAY [--built LETTERS] [--threads N] [--seconds S] [--timeout S]
+       oracle compare N SEED REPLAY [--built LETTERS] [--threads N] [--seconds S] [--timeout S] [--every-refusal]
        oracle cells [--part K]
        oracle cells-compare REPLAY [--part K] [--built LETTERS] [--threads N] [--timeout S]
        oracle demand3 N SEED [--mutant K]
        oracle vectors [--built LETTERS]
        oracle page
        oracle listing
-       oracle records-compare N SEED PAGE LISTING [--threads N] [--timeout S]";
+       oracle records-compare N SEED PAGE LISTING [--threads N] [--timeout S] [--every-refusal]";
 
 /// The options, each with a value.
 const OPTIONS: [&str; 6] = [
@@ -70,6 +70,9 @@ const OPTIONS: [&str; 6] = [
     "--part",
     "--mutant",
 ];
+
+/// The option without a value: a comparison has to see every refusal that it can.
+const EVERY_REFUSAL: &str = "--every-refusal";
 
 /// How long one run of the program under test may take, in seconds, unless told otherwise.
 const TIMEOUT: u64 = 60;
@@ -131,6 +134,7 @@ fn generated(arguments: &Arguments) -> Result<Task, String> {
     let task = task(arguments, arguments.number(1)?, source, 3)?;
     Ok(Task {
         seconds: arguments.option_number("--seconds")?,
+        every_refusal: arguments.every_refusal,
         ..task
     })
 }
@@ -159,6 +163,7 @@ fn record_files_task(arguments: &Arguments) -> Result<record_compare::Task, Stri
             Program::listing(under_test(arguments, 4)?),
         ],
         threads: arguments.option_number("--threads")?.unwrap_or(1),
+        every_refusal: arguments.every_refusal,
     })
 }
 
@@ -187,6 +192,7 @@ fn task(arguments: &Arguments, lists: u32, source: Source, place: usize) -> Resu
         built: arguments.letters(),
         threads: arguments.option_number("--threads")?.unwrap_or(1),
         seconds: None,
+        every_refusal: false,
     })
 }
 
@@ -213,10 +219,11 @@ fn print(bytes: &[u8]) -> io::Result<()> {
     io::stdout().lock().write_all(bytes)
 }
 
-/// The arguments: plain ones, and options with their values.
+/// The arguments: plain ones, options with their values, and the option that has none.
 struct Arguments {
     plain: Vec<String>,
     options: Vec<(String, String)>,
+    every_refusal: bool,
 }
 
 impl Arguments {
@@ -225,6 +232,7 @@ impl Arguments {
         let mut taken = Self {
             plain: Vec::new(),
             options: Vec::new(),
+            every_refusal: false,
         };
         while let Some(argument) = arguments.next() {
             if OPTIONS.contains(&argument.as_str()) {
@@ -232,6 +240,8 @@ impl Arguments {
                     .next()
                     .ok_or(format!("{argument} lacks its value"))?;
                 taken.options.push((argument, value));
+            } else if argument == EVERY_REFUSAL {
+                taken.every_refusal = true;
             } else if argument.starts_with('-') {
                 return Err(format!("{argument} is not known"));
             } else {

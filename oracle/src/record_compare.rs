@@ -21,6 +21,7 @@ pub struct Program {
     name: &'static str,
     ours: Replay,
     rust: Draws,
+    refusals: &'static [u8],
 }
 
 /// What is compared.
@@ -29,6 +30,8 @@ pub struct Task {
     pub seed: u64,
     pub programs: [Program; 2],
     pub threads: u32,
+    /// Whether each refusal at which a program can stop has to come.
+    pub every_refusal: bool,
 }
 
 /// What came out of a comparison.
@@ -47,6 +50,7 @@ impl Program {
             name: "page",
             ours,
             rust: |records, out| programs::page(records, out),
+            refusals: refusals::OF_PAGE,
         }
     }
 
@@ -56,6 +60,7 @@ impl Program {
             name: "listing",
             ours,
             rust: |records, out| programs::listing(records, out),
+            refusals: refusals::OF_LISTING,
         }
     }
 
@@ -102,13 +107,21 @@ impl Program {
 }
 
 impl Task {
-    /// Compares, prints what came out, and says whether there was no difference.
+    /// Compares, prints what came out, and says whether there was no difference and, if asked for, every refusal came.
     pub fn run(&self) -> bool {
         let findings = self.compare();
-        if !findings.difference {
-            findings.print();
+        if findings.difference {
+            return false;
         }
-        !findings.difference
+        findings.print();
+        let missing = findings.refusals_missing(&self.programs);
+        if !self.every_refusal || missing.is_empty() {
+            return true;
+        }
+        for (name, number) in missing {
+            println!("{name} never stopped with {number}");
+        }
+        false
     }
 
     /// Compares, in as many threads as asked.
@@ -152,6 +165,19 @@ impl Findings {
             let refusal = refusal(&program.expected(file)).unwrap_or_else(|| "none".to_owned());
             *self.refusals.entry((program.name, refusal)).or_default() += 1;
         }
+    }
+
+    /// The refusals at which the programs can stop and none has: each its program and number.
+    fn refusals_missing(&self, programs: &[Program]) -> Vec<(&'static str, u8)> {
+        let possible = programs.iter().flat_map(|program| {
+            program
+                .refusals
+                .iter()
+                .map(|number| (program.name, *number))
+        });
+        possible
+            .filter(|(name, number)| !self.refusals.contains_key(&(*name, number.to_string())))
+            .collect()
     }
 
     /// Prints the counts, and the closing line.

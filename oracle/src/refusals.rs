@@ -16,6 +16,19 @@ pub const RECORD_ENTRIES: u8 = 8;
 pub const RECORD_KIND: u8 = 2;
 /// The greatest refusal number.
 pub const LAST: u8 = 12;
+/// The refusals of each call of a generated list, by its letter, in document 01's order.
+pub const OF_CALLS: [(u8, &[u8]); 6] = [
+    (b'N', &[1]),
+    (b'R', &[2]),
+    (b'P', &[5, 12, 8]),
+    (b'T', &[5, 6, 7, 3, 4, 8]),
+    (b'W', &[3, 4]),
+    (b'V', &[3]),
+];
+/// The refusals at which the page program can stop: a record's entries, message and lines are within the limits of 3, 6 and 8.
+pub const OF_PAGE: &[u8] = &[9, 10, 11, 5, 7, 4];
+/// The refusals at which the listing program can stop, which ignores messages.
+pub const OF_LISTING: &[u8] = &[9, 10, 11, 5, 4];
 
 /// The number of a refusal.
 #[derive(Clone, Copy, Debug, PartialEq, Eq)]

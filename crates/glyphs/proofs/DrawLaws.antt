@@ -1,10 +1,10 @@
 -- Laws of a line's cells drawn one by one, each by eight places of which the next cell keeps its own bytes: what the loop over the cells cites.
 use mathlib.Core.Path.{_≡_, sym, ap, _∙_}
-use mathlib.Core.List.{List, [], _∷_, _++_, append-assoc, append-nil}
+use mathlib.Core.List.{List, [], _∷_, _++_, append-nil}
 use Prim.Native.Nat.{ℕ, _+_, _<_, _≤_}
 use native.Mathlib.Numerals.{add-one}
 use native.Mathlib.Omega.{arith}
-use lib.ListN.{length, take, drop, getD, set, length-append, length-take, take-append-drop}
+use lib.ListN.{length, take, drop, getD, set, length-take}
 use lib.Seq.{take-suc, take-all, take-append-le, take-append-add, length-take-le}
 use Rattle.column.specs.Columns.{columnLimit}
 use Rattle.render.specs.declared.render.LinkLine.{LinkLine}

@@ -19,7 +19,6 @@ use crate::types::Row;
 use crate::types::place_glyph;
 use column::COLUMN_LIMIT;
 use render::Cell;
-use render::DashStyle;
 use render::LinkLine;
 use render::NodeLine;
 use render::PadLine;

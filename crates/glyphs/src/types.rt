@@ -1,8 +1,8 @@
 // What the renderers look at and what they give each cell, after types.rs.
 ghost use mathlib.Core.Path.{_≡_};
-ghost use mathlib.Core.List.{[], _∷_, _++_};
-ghost use Prim.Native.Nat.{_+_, _≤_};
-ghost use lib.ListN.{length, take};
+ghost use mathlib.Core.List.{[], _∷_};
+ghost use Prim.Native.Nat.{_≤_};
+ghost use lib.ListN.{length};
 ghost use Rattle.glyphs.specs.Inner.{Holds};
 ghost use Rattle.glyphs.specs.Joins.{over};
 use render::Cell;

@@ -2,7 +2,7 @@
 ghost use mathlib.Core.Path.{_≡_};
 ghost use mathlib.Core.List.{map};
 ghost use Prim.Native.Nat.{_+_, _≤_};
-ghost use lib.ListN.{length, getD, take};
+ghost use lib.ListN.{length, take};
 ghost use Rattle.record.specs.Record.{recordLength, parentLimit, parentCount, kindLimit, messageRoom, idAt, entryOf, writtenAt, writtenFrom, anyAbove, upToZero, recordOf, noRecord};
 ghost use Rattle.record.specs.Promises.{entry, entriesWith, padded, recordWith, Records};
 use render::Ancestor;

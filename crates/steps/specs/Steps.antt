@@ -18,7 +18,7 @@ use Rattle.output.specs.Output.{TextView}
 use Rattle.text.specs.Text.{TextReply, text}
 use Rattle.record.specs.declared.Outcome.{Outcome}
 use Rattle.record.specs.declared.Outcome.the-variants.{Ready, Ended, Refused}
-use Rattle.record.specs.Record.{RecordView, RecordReply, nextRecord}
+use Rattle.record.specs.Record.{RecordView, nextRecord}
 
 -- ---- the line that a refusal ends with
 

@@ -2,11 +2,11 @@
 use mathlib.Core.Path.{_≡_, refl, sym, ap, ap₂, _∙_, fun-ext}
 use mathlib.Core.Bool.{Bool, true, false, cond, not, _&&_, _||_}
 use mathlib.Core.List.{List, [], _∷_, _++_, map}
-use Prim.Native.Nat.{ℕ, zero, suc, _+_, _-_, _*_, _<_, _≤_, max}
+use Prim.Native.Nat.{ℕ, suc, _+_, _-_, _*_, _<_, _≤_, max}
 use native.Mathlib.Nat.{zero-add}
 use native.Mathlib.Omega.{arith}
 use borrow.Author.Tests.{lt-ltb, le-ltb, le-leb, leb-true, leb-false}
-use lib.Dec.{eqb, ltb, leb, lit≤}
+use lib.Dec.{eqb, leb, lit≤}
 use lib.ListN.{length, take, drop, replicate, length-append, length-map}
 use lib.Seq.{take-at, length-take-le}
 use Rattle.column.specs.Columns.{columnLimit}
@@ -31,12 +31,12 @@ use Rattle.message.specs.Message.{linesOf, otherLines, messageLimit}
 use Rattle.message.proofs.MessageLaws.{lines-few}
 use Rattle.output.specs.declared.Put.{Put}
 use Rattle.output.specs.declared.TextState.{TextState}
-use Rattle.output.specs.Output.{queueLimit, ended, textOf, lineMeasure, TextView, textViewOf, beginRow, Puts}
+use Rattle.output.specs.Output.{queueLimit, ended, textOf, textViewOf, beginRow, Puts}
 use Rattle.output.proofs.PutLaws.{begin-short}
 use Rattle.text.specs.declared.prefix_lines_to_text.Drawn.{Drawn}
 use Rattle.text.specs.declared.prefix_lines_to_text.Plan.{Plan}
 use Rattle.text.specs.declared.prefix_lines_to_text.RowText.{RowText}
-use Rattle.text.specs.Text.{isRepeatable, isBottom, times, needed, repeated, beside, prefix, rowLines, queues, textAfter, textLines}
+use Rattle.text.specs.Text.{isRepeatable, isBottom, times, needed, repeated, beside, prefix, rowLines, textAfter, textLines}
 use Rattle.text.specs.Inner.{prefixText, lineWith, drawn, spread, one, lineTimes, fixedLines, planOf, allPut, mostBytes, stateAfter, drawnOf, RowTexts}
 use Rattle.text.proofs.RepeatLaws.{drawn-beside, spread-length, map-append, map-times, short-map, drawn-short}
 use Rattle.text.proofs.TextLineLaws.{prefix-short}

@@ -1,7 +1,7 @@
 -- What the inner functions of text give.
 use Prim.Native.Nat.{ℕ, _+_, _-_, _*_, _≤_, max}
 use mathlib.Core.Path.{_≡_}
-use mathlib.Core.Bool.{Bool, cond, not, _&&_, _||_}
+use mathlib.Core.Bool.{Bool, cond, _&&_}
 use mathlib.Core.List.{List, [], _∷_, _++_, map}
 use lib.Dec.{eqb, ltb}
 use lib.ListN.{length, take, drop, replicate}
@@ -18,7 +18,6 @@ use Rattle.glyphs.specs.Inner.{cellsText}
 use Rattle.glyphs.specs.Joins.{over}
 use Rattle.glyphs.specs.Row.{rowOf}
 use Rattle.message.specs.Message.{linesOf, firstLine, otherLines}
-use Rattle.output.specs.declared.Put.{Put}
 use Rattle.output.specs.Output.{finish, textOf, lineMeasure, TextView, textViewOf, beginRow, Puts}
 use Rattle.text.specs.declared.prefix_lines_to_text.Drawn.{Drawn}
 use Rattle.text.specs.declared.prefix_lines_to_text.Plan.{Plan}

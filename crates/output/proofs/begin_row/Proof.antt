@@ -1,8 +1,7 @@
-use mathlib.Core.Path.{_≡_, refl, ap, sym, _∙_}
+use mathlib.Core.Path.{refl, ap, sym, _∙_}
 use mathlib.Core.Bool.{Bool, _&&_}
 use native.Mathlib.Omega.{arith}
 use borrow.Author.Tests.{not-true, not-false}
-use Rattle.output.specs.Output.{textViewOf}
 use Rattle.output.proofs.PutLaws.{queue-long, queue-short, separator-none, separator-there}
 use borrow.Author.Needs.{needs}
 use Rattle.output.proofs.begin_row.Statement.{statement}

@@ -1,4 +1,3 @@
-use mathlib.Core.Path.{_≡_}
 use borrow.Author.Needs.{needs}
 use Rattle.glyphs.proofs.box_drawing.glyph_number.Statement.{statement}
 use Rattle.glyphs.proofs.box_drawing.glyph_number.Tie as tie

@@ -1,11 +1,8 @@
 use Prim.Native.Nat.{_-_}
-use mathlib.Core.Path.{_≡_, _∙_, ap}
-use mathlib.Core.List.{List}
-use Prim.Native.Nat.{ℕ}
+use mathlib.Core.Path.{_≡_}
 use native.Mathlib.Omega.{arith}
-use lib.ListN.{length, take, drop, length-take}
+use lib.ListN.{take, drop, length-take}
 use Rattle.glyphs.specs.Inner.{entry, cellsText}
-use Rattle.glyphs.specs.Joins.{over}
 use Rattle.glyphs.proofs.CellLaws.{cells-short}
 use Rattle.glyphs.proofs.TableLaws.{entry-short}
 use borrow.Author.Needs.{needs}

@@ -1,8 +1,7 @@
-use mathlib.Core.Path.{_≡_, refl, ap}
+use mathlib.Core.Path.{refl, ap}
 use Prim.Native.Nat.{ℕ}
 use lib.Dec.{leb}
 use lib.ListN.{length}
-use native.Mathlib.Omega.{arith}
 use Rattle.output.proofs.PutLaws.{queue-long}
 use Rattle.text.proofs.RowTextLaws.{room-there, empty-front}
 use borrow.Author.Needs.{needs}

@@ -1,5 +1,4 @@
-use mathlib.Core.Path.{_≡_, refl}
-use native.Mathlib.Omega.{arith}
+use mathlib.Core.Path.{refl}
 use borrow.Author.Needs.{needs}
 use Rattle.text.proofs.prefix_lines_to_text.plan_of.Statement.{statement}
 use Rattle.text.proofs.prefix_lines_to_text.plan_of.Tie as tie

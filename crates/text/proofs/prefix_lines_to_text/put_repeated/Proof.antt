@@ -1,7 +1,7 @@
 use mathlib.Core.Path.{_≡_, refl}
 use Prim.Native.Nat.{_≤_, _-_}
 use native.Mathlib.Omega.{arith}
-use lib.ListN.{length, replicate, length-replicate, take, drop}
+use lib.ListN.{length, replicate, length-replicate}
 use borrow.Author.Needs.{needs}
 use Rattle.text.proofs.RepeatLaws.{Putting, so-short, part-within, part-short, put-short, repeat-next, row-none}
 use Rattle.text.proofs.prefix_lines_to_text.put_repeated.Statement.{statement}

@@ -1,4 +1,3 @@
-use mathlib.Core.Path.{_≡_, refl}
 use borrow.Author.Needs.{needs}
 use Rattle.text.proofs.prefix_lines_to_text.repeats.Statement.{statement}
 use Rattle.text.proofs.prefix_lines_to_text.repeats.Tie as tie

@@ -1,7 +1,6 @@
-use mathlib.Core.Path.{_≡_, _∙_}
 use Prim.Native.Nat.{_-_}
 use native.Mathlib.Omega.{arith}
-use lib.ListN.{length, take, drop, length-take}
+use lib.ListN.{drop, length-take}
 use Rattle.glyphs.specs.Inner.{entry}
 use Rattle.output.proofs.PutLaws.{queue-long}
 use Rattle.text.proofs.RowTextLaws.{state-plain, state-queued}
