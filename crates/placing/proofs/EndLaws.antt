@@ -20,6 +20,7 @@ use Rattle.column.specs.declared.Found.the-variants.{At}
 use Rattle.render.specs.declared.types.Options.{Options}
 use Rattle.render.specs.declared.types.DashStyle.{DashStyle}
 use Rattle.render.specs.declared.types.DashStyle.the-variants.{Persistent, Once}
+use Rattle.shaper.specs.declared.Shaper.{Shaper}
 use Rattle.placing.specs.Placing.{dashed}
 use Rattle.placing.specs.Inner.{endedColumn, Ends}
 
@@ -71,6 +72,9 @@ module _ (d : DashStyle) (given l : List Slot) (count n : ℕ) (long : length gi
           ∙ ap (λ (cs : List Column). at cs i) (sym q)
           ∙ past-end (live m l) i (rw (length-front columnOf m l) (omega arith))
 
-  pub ended-done : (m column : ℕ) (o : Options) → o .«graph_row_shape_style» .«dash_style» ≡ d → m ≤ n → live m l ≡ trim (live n l)
-      → Ends given count column o (record { slots = l; count = m; «previous_node_column» = At column; options = o })
-  ended-done m column o k h q = record { columns = q ∙ ap trim whole ∙ rw k; fits = omega arith; rest = went m h q; previous = refl; options = refl }
+  -- the shaper y after the second loop, which found it as x
+  pub ended-done : (x y : Shaper) (m column : ℕ) (o : Options) → y ≡ x → x .slots ≡ l → x .«previous_node_column» ≡ At column → x .options ≡ o
+      → o .«graph_row_shape_style» .«dash_style» ≡ d → m ≤ n → live m l ≡ trim (live n l)
+      → Ends given count column o (record { slots = y .slots; count = m; «previous_node_column» = y .«previous_node_column»; options = y .options })
+  ended-done x y m column o z s p r k h q =
+      rw (z, s, p, r) (record { columns = q ∙ ap trim whole ∙ rw k; fits = omega arith; rest = went m h q; previous = refl; options = refl })

@@ -136,12 +136,7 @@ fn ended_column(column: Column, dash_style: DashStyle) -> Column
 
 // What ends a row: every column as it is after it, then Empty columns at the end go. Gives the shaper after a row with these columns and
 // the node in `column`; its slots past the count are Empty.
-pub fn ended(
-    given: [Slot; COLUMN_LIMIT],
-    count: usize,
-    column: usize,
-    options: Options,
-) -> Shaper
+pub fn ended(given: [Slot; COLUMN_LIMIT], count: usize, column: usize, options: Options) -> Shaper
     ensures { λ r. ⌜ Ends given count column options r ⌝ }
 {
     let style = options.graph_row_shape_style;
@@ -149,34 +144,31 @@ pub fn ended(
     let previous_node_column = Found::At(column);
     let n = column::live_count(count);
     let empty = Slot::empty();
-    let mut slots = [empty; COLUMN_LIMIT];
+    let slots = [empty; COLUMN_LIMIT];
+    let mut next = Shaper {
+        slots,
+        count: n,
+        previous_node_column,
+        options,
+    };
     let mut at: usize = 0;
     while at < n {
         let slot = given[at];
         let old = slot.column;
         let new = ended_column(old, dash_style);
-        slots[at] = slot.with_column(new);
+        next.slots[at] = slot.with_column(new);
         at += 1;
     }
-    let mut last = n;
-    while 0 < last {
-        let end = slots[last - 1];
+    while 0 < at {
+        let end = next.slots[at - 1];
         let end_column = end.column;
         if end_column.is_empty() {
-            last -= 1;
+            at -= 1;
         } else {
-            return Shaper {
-                slots,
-                count: last,
-                previous_node_column,
-                options,
-            };
+            next.count = at;
+            return next;
         }
     }
-    Shaper {
-        slots,
-        count: last,
-        previous_node_column,
-        options,
-    }
+    next.count = at;
+    next
 }

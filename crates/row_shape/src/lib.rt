@@ -91,18 +91,17 @@ pub fn next_row_shape(shaper: Shaper, node: u32, entries: Entries) -> RowAnswer
     }
     let options = shaper.options;
     let previous = shaper.previous_node_column;
-    let old_slots = shaper.slots;
+    let mut slots = shaper.slots;
     let held = shaper.count;
     let live = column::live_count(held);
-    let existing = column::find(old_slots, held, node);
-    let Found::At(column) = find_column(old_slots, held, options, previous, existing) else {
+    let existing = column::find(slots, held, node);
+    let Found::At(column) = find_column(slots, held, options, previous, existing) else {
         return refused_row(shaper, NODE_LINE_TOO_WIDE);
     };
-    let node_slot = old_slots[column];
+    let node_slot = slots[column];
     let node_column = node_slot.column;
     let is_head = shaper::is_head(existing, node_column);
     // the node's column becomes Empty, and so does a placeholder before a new last one
-    let mut slots = old_slots;
     let beside = placing::placeholder(live, column);
     slots[beside] = Slot::empty();
     slots[column] = Slot::empty();
@@ -132,7 +131,7 @@ pub fn next_row_shape(shaper: Shaper, node: u32, entries: Entries) -> RowAnswer
     // a single entry whose column lies right of the node swaps columns with it; else the node's changes places with itself
     let given_up = placing::given_up(n, parent_column, column);
     let other = placing::or_else(given_up, column);
-    let was = old_slots[other];
+    let was = shaper.slots[other];
     let old = placing::column_before(was, other, live, column);
     let swap = Swap {
         given_up,
@@ -162,7 +161,7 @@ pub fn next_row_shape(shaper: Shaper, node: u32, entries: Entries) -> RowAnswer
     let end = bounds.reach_end(swap, count);
     let mut k = bounds.reach_start(swap);
     while k < end {
-        let bare = old_slots[k];
+        let bare = shaper.slots[k];
         let bare_column = placing::column_before(bare, k, live, column);
         let settled = slots[k];
         let settled_column = settled.column;

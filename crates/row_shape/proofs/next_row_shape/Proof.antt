@@ -14,23 +14,23 @@ use Rattle.placing.proofs.PlacingLaws.{Going, going-over, going-next}
 use Rattle.row_shape.proofs.NextRow.{row-too-many, row-no-column, column-within, Begun, begun, bare, count-within, row-start, entry-next, row-walked, row-no-room, other-within, row-done, Plain, plain-start, plain-next, Drawing, drawing-start, drawing-next}
 
 abbrev Inv-loop : tie.InvT-loop
-Inv-loop shaper node entries options previous old-slots held m existing column is-head slots₀ beside count₀ nobody parents₀ last₀ said₀ n i₀ slots count parents last said i =
+Inv-loop node shaper entries options previous slots₀ held m existing column is-head beside count₀ nobody parents₀ last₀ said₀ n i₀ slots count parents last said i =
     (i ≤ n) × Begun shaper node entries existing column m × Going (put (live m (shaper .slots)) column Empty) column (given entries) i slots count parents last said
 
 abbrev μ-loop : tie.MeasureT-loop
-μ-loop shaper node entries options previous old-slots held m existing column is-head slots₀ beside count₀ nobody parents₀ last₀ said₀ n i₀ slots count parents last said i = n - i
+μ-loop node shaper entries options previous slots₀ held m existing column is-head beside count₀ nobody parents₀ last₀ said₀ n i₀ slots count parents last said i = n - i
 
 abbrev Inv-loop2 : tie.InvT-loop2
-Inv-loop2 node options previous old-slots held m existing column is-head slots beside count parents last said n i other swap bounds need parent ancestor blank cells₀ p₀ cells p = Plain need bounds swap parents old-slots slots m column count p cells
+Inv-loop2 node shaper options previous slots held m existing column is-head beside count parents last said n i other swap bounds need parent ancestor blank cells₀ p₀ cells p = Plain need bounds swap parents (shaper .slots) slots m column count p cells
 
 abbrev μ-loop2 : tie.MeasureT-loop2
-μ-loop2 node options previous old-slots held m existing column is-head slots beside count parents last said n i other swap bounds need parent ancestor blank cells₀ p₀ cells p = count - p
+μ-loop2 node shaper options previous slots held m existing column is-head beside count parents last said n i other swap bounds need parent ancestor blank cells₀ p₀ cells p = count - p
 
 abbrev Inv-loop3 : tie.InvT-loop3
-Inv-loop3 node options previous old-slots held m existing column is-head slots beside count parents last said n i other swap bounds need cells₀ p end k₀ cells k = Drawing need bounds swap parents old-slots slots m column count k cells
+Inv-loop3 node shaper options previous slots held m existing column is-head beside count parents last said n i other swap bounds need cells₀ p end k₀ cells k = Drawing need bounds swap parents (shaper .slots) slots m column count k cells
 
 abbrev μ-loop3 : tie.MeasureT-loop3
-μ-loop3 node options previous old-slots held m existing column is-head slots beside count parents last said n i other swap bounds need cells₀ p end k₀ cells k = end - k
+μ-loop3 node shaper options previous slots held m existing column is-head beside count parents last said n i other swap bounds need cells₀ p end k₀ cells k = end - k
 
 are-too-many-requires :
     tie.Need-are-too-many-requires Inv-loop μ-loop Inv-loop2 μ-loop2 Inv-loop3 μ-loop3
@@ -42,7 +42,7 @@ refused-row-requires c κs = search needs
 
 returns : tie.Need-returns Inv-loop μ-loop Inv-loop2 μ-loop2 Inv-loop3 μ-loop3
 returns c = let a = c .before .before .before .args in
-    row-too-many (a .shaper) (a .node) (a .t3) _ (sym (c .before .before .are-too-many .ensures) ∙ c .before .if1 .taken) (c .refused-row .ensures)
+    row-too-many (a .t1) (a .node) (a .t3) _ (sym (c .before .before .are-too-many .ensures) ∙ c .before .if1 .taken) (c .refused-row .ensures)
 
 live-count-requires :
     tie.Need-live-count-requires Inv-loop μ-loop Inv-loop2 μ-loop2 Inv-loop3 μ-loop3
@@ -68,7 +68,7 @@ refused-row-requires-2 c κs = search needs
 returns-2 : tie.Need-returns-2 Inv-loop μ-loop Inv-loop2 μ-loop2 Inv-loop3 μ-loop3
 returns-2 c = let f = c .before .before .before in
     let a = f .before .before .before .before .before .before .before .args in
-    row-no-column (a .shaper) (a .node) (a .t3) (sym (f .before .before .before .before .before .before .are-too-many .ensures) ∙ f .before .before .before .before .before .if1 .left) _ _ _ (f .before .find .ensures) (f .find-column .ensures) (c .before .enum-told .given .1) (c .refused-row2 .ensures)
+    row-no-column (a .t1) (a .node) (a .t3) (sym (f .before .before .before .before .before .before .are-too-many .ensures) ∙ f .before .before .before .before .before .if1 .left) _ _ _ (f .before .find .ensures) (f .find-column .ensures) (c .before .enum-told .given .1) (c .refused-row2 .ensures)
 
 mul-node-slot : tie.Need-mul-node-slot Inv-loop μ-loop Inv-loop2 μ-loop2 Inv-loop3 μ-loop3
 mul-node-slot c = omega (arith, (column-within _ _ _ (c .before .before .before .find-column .ensures) (c .before .column .given .1)))
@@ -114,25 +114,24 @@ nobody-requires c κs = search needs
 loop-holds : tie.Need-loop-holds Inv-loop μ-loop Inv-loop2 μ-loop2 Inv-loop3 μ-loop3
 loop-holds c = let f = c .before .before .before .before .before .before .before .before .before .before in
     let a = f .before .before .before .before .before .before .before .args in
-    let b = begun (a .shaper) (a .node) (a .t3) _ _ _ _ (sym (f .before .before .before .before .before .before .are-too-many .ensures) ∙ f .before .before .before .before .before .if1 .left) (f .before .find .ensures) (f .find-column .ensures) (c .before .before .before .before .before .before .before .before .column .given .1) (f .before .before .live-count .ensures)
-        (slots-long (a .shaper .slots) (f .before .before .before .before .before .before .before .good .0 .1 .1 .0 .1 .0 .1)) (entries-long (a .t3 .list) (f .before .before .before .before .before .before .before .good .1 .1 .0 .1 .1 .0 .1 .0 .1)) in
-    (
+    let b = begun (a .t1) (a .node) (a .t3) _ _ _ _ (sym (f .before .before .before .before .before .before .are-too-many .ensures) ∙ f .before .before .before .before .before .if1 .left) (f .before .find .ensures) (f .find-column .ensures) (c .before .before .before .before .before .before .before .before .column .given .1) (f .before .before .live-count .ensures)
+    (slots-long (a .t1 .slots) (f .before .before .before .before .before .before .before .good .0 .1 .1 .0 .1 .0 .1)) (entries-long (a .t3 .list) (f .before .before .before .before .before .before .before .good .1 .1 .0 .1 .1 .0 .1 .0 .1)) in (
       omega arith,
       b,
       rw (c .before .before .empty2 .ensures, c .before .before .before .empty .ensures)
-          (row-start (a .shaper) (a .node) (a .t3) _ _ _ b (c .before .before .before .before .placeholder .result) (c .before .count-with .result) _ (c .before .before .before .before .placeholder .ensures) (c .before .count-with .ensures) (rw (c .nobody .ensures))),
+          (row-start (a .t1) (a .node) (a .t3) _ _ _ b (c .before .before .before .before .placeholder .result) (c .before .count-with .result) _ (c .before .before .before .before .placeholder .ensures) (c .before .count-with .ensures) (rw (c .nobody .ensures))),
     )
 
 mul-entry : tie.Need-mul-entry Inv-loop μ-loop Inv-loop2 μ-loop2 Inv-loop3 μ-loop3
 mul-entry c = let l = c .before in
     let a = l .before .before .before .before .before .before .before .before .before .before .before .before .before .before .before .before .before .before .args in
-    omega (arith, c .loop-test .taken, count-within (a .shaper) (a .node) (a .t3) _ _ _ (l .loop .inv .1))
+    omega (arith, c .loop-test .taken, count-within (a .t1) (a .node) (a .t3) _ _ _ (l .loop .inv .1))
 
 element-copy-out-entry :
     tie.Need-element-copy-out-entry Inv-loop μ-loop Inv-loop2 μ-loop2 Inv-loop3 μ-loop3
 element-copy-out-entry c = let l = c .before in
     let a = l .before .before .before .before .before .before .before .before .before .before .before .before .before .before .before .before .before .before .args in
-    omega (arith, c .loop-test .taken, count-within (a .shaper) (a .node) (a .t3) _ _ _ (l .loop .inv .1))
+    omega (arith, c .loop-test .taken, count-within (a .t1) (a .node) (a .t3) _ _ _ (l .loop .inv .1))
 
 parent-column-requires :
     tie.Need-parent-column-requires Inv-loop μ-loop Inv-loop2 μ-loop2 Inv-loop3 μ-loop3
@@ -147,9 +146,9 @@ returns-3 c = let l = c .before .before .before .before .before in
     let v = l .loop in
     let a = l .before .before .before .before .before .before .before .before .before .before .before .before .before .before .before .before .before .before .args in
     let b = v .inv .1 in
-    let bs = bare (a .shaper) (a .node) (a .t3) _ _ _ b in
+    let bs = bare (a .t1) (a .node) (a .t3) _ _ _ b in
     let h = c .before .before .before .before .loop-test .taken in
-    row-no-room (a .shaper) (a .node) (a .t3) _ _ _ b _ (going-over bs _ (given (a .t3)) (v .i) (v .slots) (v .count) (v .parents) (v .parent-column) (v .need-term-line) (v .inv .2) _ (entry-next (a .shaper) (a .node) (a .t3) _ _ _ b (v .i) _ h) _ (c .before .before .parent-column .ensures) (c .before .if2 .taken)) (c .refused-row3 .ensures)
+    row-no-room (a .t1) (a .node) (a .t3) _ _ _ b _ (going-over bs _ (given (a .t3)) (v .i) (v .slots) (v .count) (v .parents) (v .parent-column) (v .need-term-line) (v .inv .2) _ (entry-next (a .t1) (a .node) (a .t3) _ _ _ b (v .i) _ h) _ (c .before .before .parent-column .ensures) (c .before .if2 .taken)) (c .refused-row3 .ensures)
 
 mul-slot : tie.Need-mul-slot Inv-loop μ-loop Inv-loop2 μ-loop2 Inv-loop3 μ-loop3
 mul-slot c = search needs
@@ -186,7 +185,7 @@ is-anonymous-requires c κs = search needs
 add-i : tie.Need-add-i Inv-loop μ-loop Inv-loop2 μ-loop2 Inv-loop3 μ-loop3
 add-i c = let l = c .before .before .before .before .before .before .before .before .before in
     let a = l .before .before .before .before .before .before .before .before .before .before .before .before .before .before .before .before .before .before .args in
-    omega (arith, c .before .before .before .before .before .before .before .before .loop-test .taken, count-within (a .shaper) (a .node) (a .t3) _ _ _ (l .loop .inv .1))
+    omega (arith, c .before .before .before .before .before .before .before .before .loop-test .taken, count-within (a .t1) (a .node) (a .t3) _ _ _ (l .loop .inv .1))
 
 loop-less : tie.Need-loop-less Inv-loop μ-loop Inv-loop2 μ-loop2 Inv-loop3 μ-loop3
 loop-less c = omega (arith, c .before .before .before .before .before .before .before .before .loop-test .taken)
@@ -196,12 +195,11 @@ loop-again c = let l = c .before .before .before .before .before .before .before
     let v = l .loop in
     let a = l .before .before .before .before .before .before .before .before .before .before .before .before .before .before .before .before .before .before .args in
     let b = v .inv .1 in
-    let bs = bare (a .shaper) (a .node) (a .t3) _ _ _ b in
-    let h = c .before .before .before .before .before .before .before .before .loop-test .taken in
-    (
+    let bs = bare (a .t1) (a .node) (a .t3) _ _ _ b in
+    let h = c .before .before .before .before .before .before .before .before .loop-test .taken in (
       omega (arith, h),
       b,
-      going-next bs _ (given (a .t3)) (v .i) (v .slots) (v .count) (v .parents) (v .parent-column) (v .need-term-line) (v .inv .2) _ (entry-next (a .shaper) (a .node) (a .t3) _ _ _ b (v .i) _ h) _ (c .before .before .before .before .before .before .parent-column .ensures) (omega (arith, c .before .before .before .before .before .if2 .left)) _ (c .before .before .count-with2 .ensures) _ (c .before .before .before .entered .ensures) _ (c .before .drawn-by .ensures) _ (c .is-anonymous .ensures),
+      going-next bs _ (given (a .t3)) (v .i) (v .slots) (v .count) (v .parents) (v .parent-column) (v .need-term-line) (v .inv .2) _ (entry-next (a .t1) (a .node) (a .t3) _ _ _ b (v .i) _ h) _ (c .before .before .before .before .before .before .parent-column .ensures) (omega (arith, c .before .before .before .before .before .if2 .left)) _ (c .before .before .count-with2 .ensures) _ (c .before .before .before .entered .ensures) _ (c .before .drawn-by .ensures) _ (c .is-anonymous .ensures),
     )
 
 given-up-requires : tie.Need-given-up-requires Inv-loop μ-loop Inv-loop2 μ-loop2 Inv-loop3 μ-loop3
@@ -215,17 +213,17 @@ mul-was c = let t = c .before .before in
     let v = t .before .loop in
     let a = t .before .before .before .before .before .before .before .before .before .before .before .before .before .before .before .before .before .before .before .args in
     let b = v .inv .1 in
-    let g = row-walked (a .shaper) (a .node) (a .t3) _ _ _ b _ _ _ _ _ _ (v .inv .2) (t .loop-test .left) in
-    omega (arith, other-within (a .shaper) (a .node) (a .t3) _ _ _ b _ _ _ _ _ g _ (c .before .given-up .ensures) _ (c .or-else .ensures))
+    let g = row-walked (a .t1) (a .node) (a .t3) _ _ _ b _ _ _ _ _ _ (v .inv .2) (t .loop-test .left) in
+    omega (arith, other-within (a .t1) (a .node) (a .t3) _ _ _ b _ _ _ _ _ g _ (c .before .given-up .ensures) _ (c .or-else .ensures))
 
-array-copy-out-was :
-    tie.Need-array-copy-out-was Inv-loop μ-loop Inv-loop2 μ-loop2 Inv-loop3 μ-loop3
-array-copy-out-was c = let t = c .before .before in
+element-copy-out-was :
+    tie.Need-element-copy-out-was Inv-loop μ-loop Inv-loop2 μ-loop2 Inv-loop3 μ-loop3
+element-copy-out-was c = let t = c .before .before in
     let v = t .before .loop in
     let a = t .before .before .before .before .before .before .before .before .before .before .before .before .before .before .before .before .before .before .before .args in
     let b = v .inv .1 in
-    let g = row-walked (a .shaper) (a .node) (a .t3) _ _ _ b _ _ _ _ _ _ (v .inv .2) (t .loop-test .left) in
-    other-within (a .shaper) (a .node) (a .t3) _ _ _ b _ _ _ _ _ g _ (c .before .given-up .ensures) _ (c .or-else .ensures)
+    let g = row-walked (a .t1) (a .node) (a .t3) _ _ _ b _ _ _ _ _ _ (v .inv .2) (t .loop-test .left) in
+    other-within (a .t1) (a .node) (a .t3) _ _ _ b _ _ _ _ _ g _ (c .before .given-up .ensures) _ (c .or-else .ensures)
 
 column-before-requires :
     tie.Need-column-before-requires Inv-loop μ-loop Inv-loop2 μ-loop2 Inv-loop3 μ-loop3
@@ -247,8 +245,8 @@ mul-other-slot c = let t = c .before .before .before .before .before .before in
     let v = t .before .loop in
     let a = t .before .before .before .before .before .before .before .before .before .before .before .before .before .before .before .before .before .before .before .args in
     let b = v .inv .1 in
-    let g = row-walked (a .shaper) (a .node) (a .t3) _ _ _ b _ _ _ _ _ _ (v .inv .2) (t .loop-test .left) in
-    omega (arith, other-within (a .shaper) (a .node) (a .t3) _ _ _ b _ _ _ _ _ g _ (c .before .before .before .before .before .given-up .ensures) _ (c .before .before .before .before .or-else .ensures))
+    let g = row-walked (a .t1) (a .node) (a .t3) _ _ _ b _ _ _ _ _ _ (v .inv .2) (t .loop-test .left) in
+    omega (arith, other-within (a .t1) (a .node) (a .t3) _ _ _ b _ _ _ _ _ g _ (c .before .before .before .before .before .given-up .ensures) _ (c .before .before .before .before .or-else .ensures))
 
 array-copy-out-other-slot :
     tie.Need-array-copy-out-other-slot Inv-loop μ-loop Inv-loop2 μ-loop2 Inv-loop3 μ-loop3
@@ -256,8 +254,8 @@ array-copy-out-other-slot c = let t = c .before .before .before .before .before 
     let v = t .before .loop in
     let a = t .before .before .before .before .before .before .before .before .before .before .before .before .before .before .before .before .before .before .before .args in
     let b = v .inv .1 in
-    let g = row-walked (a .shaper) (a .node) (a .t3) _ _ _ b _ _ _ _ _ _ (v .inv .2) (t .loop-test .left) in
-    other-within (a .shaper) (a .node) (a .t3) _ _ _ b _ _ _ _ _ g _ (c .before .before .before .before .before .given-up .ensures) _ (c .before .before .before .before .or-else .ensures)
+    let g = row-walked (a .t1) (a .node) (a .t3) _ _ _ b _ _ _ _ _ _ (v .inv .2) (t .loop-test .left) in
+    other-within (a .t1) (a .node) (a .t3) _ _ _ b _ _ _ _ _ g _ (c .before .before .before .before .before .given-up .ensures) _ (c .before .before .before .before .or-else .ensures)
 
 mul-slots-4 : tie.Need-mul-slots-4 Inv-loop μ-loop Inv-loop2 μ-loop2 Inv-loop3 μ-loop3
 mul-slots-4 c = omega (arith, c .before .before .before .before .before .before .before .before .loop .inv .1 .within)
@@ -271,8 +269,8 @@ mul-slots-5 c = let t = c .before .before .before .before .before .before .befor
     let v = t .before .loop in
     let a = t .before .before .before .before .before .before .before .before .before .before .before .before .before .before .before .before .before .before .before .args in
     let b = v .inv .1 in
-    let g = row-walked (a .shaper) (a .node) (a .t3) _ _ _ b _ _ _ _ _ _ (v .inv .2) (t .loop-test .left) in
-    omega (arith, other-within (a .shaper) (a .node) (a .t3) _ _ _ b _ _ _ _ _ g _ (c .before .before .before .before .before .before .given-up .ensures) _ (c .before .before .before .before .before .or-else .ensures))
+    let g = row-walked (a .t1) (a .node) (a .t3) _ _ _ b _ _ _ _ _ _ (v .inv .2) (t .loop-test .left) in
+    omega (arith, other-within (a .t1) (a .node) (a .t3) _ _ _ b _ _ _ _ _ g _ (c .before .before .before .before .before .before .given-up .ensures) _ (c .before .before .before .before .before .or-else .ensures))
 
 array-set-from-slots-5 :
     tie.Need-array-set-from-slots-5 Inv-loop μ-loop Inv-loop2 μ-loop2 Inv-loop3 μ-loop3
@@ -280,8 +278,8 @@ array-set-from-slots-5 c = let t = c .before .before .before .before .before .be
     let v = t .before .loop in
     let a = t .before .before .before .before .before .before .before .before .before .before .before .before .before .before .before .before .before .before .before .args in
     let b = v .inv .1 in
-    let g = row-walked (a .shaper) (a .node) (a .t3) _ _ _ b _ _ _ _ _ _ (v .inv .2) (t .loop-test .left) in
-    other-within (a .shaper) (a .node) (a .t3) _ _ _ b _ _ _ _ _ g _ (c .before .before .before .before .before .before .given-up .ensures) _ (c .before .before .before .before .before .or-else .ensures)
+    let g = row-walked (a .t1) (a .node) (a .t3) _ _ _ b _ _ _ _ _ _ (v .inv .2) (t .loop-test .left) in
+    other-within (a .t1) (a .node) (a .t3) _ _ _ b _ _ _ _ _ g _ (c .before .before .before .before .before .before .given-up .ensures) _ (c .before .before .before .before .before .or-else .ensures)
 
 array-copy-out-drawn-in :
     tie.Need-array-copy-out-drawn-in Inv-loop μ-loop Inv-loop2 μ-loop2 Inv-loop3 μ-loop3
@@ -289,8 +287,8 @@ array-copy-out-drawn-in c = let t = c .before .before .before .before .before .b
     let v = t .before .loop in
     let a = t .before .before .before .before .before .before .before .before .before .before .before .before .before .before .before .before .before .before .before .args in
     let b = v .inv .1 in
-    let g = row-walked (a .shaper) (a .node) (a .t3) _ _ _ b _ _ _ _ _ _ (v .inv .2) (t .loop-test .left) in
-    other-within (a .shaper) (a .node) (a .t3) _ _ _ b _ _ _ _ _ g _ (c .before .before .before .before .before .before .given-up .ensures) _ (c .before .before .before .before .before .or-else .ensures)
+    let g = row-walked (a .t1) (a .node) (a .t3) _ _ _ b _ _ _ _ _ _ (v .inv .2) (t .loop-test .left) in
+    other-within (a .t1) (a .node) (a .t3) _ _ _ b _ _ _ _ _ g _ (c .before .before .before .before .before .before .given-up .ensures) _ (c .before .before .before .before .before .or-else .ensures)
 
 array-set-from-parents-2 :
     tie.Need-array-set-from-parents-2 Inv-loop μ-loop Inv-loop2 μ-loop2 Inv-loop3 μ-loop3
@@ -298,8 +296,8 @@ array-set-from-parents-2 c = let t = c .before .before .before .before .before .
     let v = t .before .loop in
     let a = t .before .before .before .before .before .before .before .before .before .before .before .before .before .before .before .before .before .before .before .args in
     let b = v .inv .1 in
-    let g = row-walked (a .shaper) (a .node) (a .t3) _ _ _ b _ _ _ _ _ _ (v .inv .2) (t .loop-test .left) in
-    other-within (a .shaper) (a .node) (a .t3) _ _ _ b _ _ _ _ _ g _ (c .before .before .before .before .before .before .before .given-up .ensures) _ (c .before .before .before .before .before .before .or-else .ensures)
+    let g = row-walked (a .t1) (a .node) (a .t3) _ _ _ b _ _ _ _ _ _ (v .inv .2) (t .loop-test .left) in
+    other-within (a .t1) (a .node) (a .t3) _ _ _ b _ _ _ _ _ g _ (c .before .before .before .before .before .before .before .given-up .ensures) _ (c .before .before .before .before .before .before .or-else .ensures)
 
 array-set-from-parents-3 :
     tie.Need-array-set-from-parents-3 Inv-loop μ-loop Inv-loop2 μ-loop2 Inv-loop3 μ-loop3
@@ -328,7 +326,7 @@ loop2-holds c = let t = c .before .before .before .before .before .before .befor
     let v = t .before .loop in
     let a = t .before .before .before .before .before .before .before .before .before .before .before .before .before .before .before .before .before .before .before .args in
     let b = v .inv .1 in
-    let g = row-walked (a .shaper) (a .node) (a .t3) _ _ _ b _ _ _ _ _ _ (v .inv .2) (t .loop-test .left) in
+    let g = row-walked (a .t1) (a .node) (a .t3) _ _ _ b _ _ _ _ _ _ (v .inv .2) (t .loop-test .left) in
     plain-start _ _ _ _ _ _ _ _ _ _ _ (c .blank .ensures) (g .fits) refl
 
 mul-shown-slot : tie.Need-mul-shown-slot Inv-loop μ-loop Inv-loop2 μ-loop2 Inv-loop3 μ-loop3
@@ -374,9 +372,9 @@ loop3-holds c = let l = c .before .before .before in
 mul-bare : tie.Need-mul-bare Inv-loop μ-loop Inv-loop2 μ-loop2 Inv-loop3 μ-loop3
 mul-bare c = omega (arith, c .loop3-test .taken, c .before .before .before .reach-end .ensures, c .before .loop3 .inv .fits)
 
-array-copy-out-bare :
-    tie.Need-array-copy-out-bare Inv-loop μ-loop Inv-loop2 μ-loop2 Inv-loop3 μ-loop3
-array-copy-out-bare c = omega (arith, c .loop3-test .taken, c .before .before .before .reach-end .ensures, c .before .loop3 .inv .fits)
+element-copy-out-bare :
+    tie.Need-element-copy-out-bare Inv-loop μ-loop Inv-loop2 μ-loop2 Inv-loop3 μ-loop3
+element-copy-out-bare c = omega (arith, c .loop3-test .taken, c .before .before .before .reach-end .ensures, c .before .loop3 .inv .fits)
 
 column-before-requires-2 :
     tie.Need-column-before-requires-2 Inv-loop μ-loop Inv-loop2 μ-loop2 Inv-loop3 μ-loop3
@@ -436,8 +434,8 @@ returns-4 c = let q = c .before .before .before .before in
     let v = t .before .loop in
     let a = t .before .before .before .before .before .before .before .before .before .before .before .before .before .before .before .before .before .before .before .args in
     let b = v .inv .1 in
-    let g = row-walked (a .shaper) (a .node) (a .t3) _ _ _ b _ _ _ _ _ _ (v .inv .2) (t .loop-test .left) in
-    row-done (a .shaper) (a .node) (a .t3) _ _ _ b _ _ _ _ _ g _ (swapped .before .before .before .before .given-up .ensures) _ (swapped .before .before .before .or-else .ensures) _ refl _ (rw (t .before .before .nobody .ensures) refl) _
+    let g = row-walked (a .t1) (a .node) (a .t3) _ _ _ b _ _ _ _ _ _ (v .inv .2) (t .loop-test .left) in
+    row-done (a .t1) (a .node) (a .t3) _ _ _ b _ _ _ _ _ g _ (swapped .before .before .before .before .given-up .ensures) _ (swapped .before .before .before .or-else .ensures) _ refl _ (rw (t .before .before .nobody .ensures) refl) _
     (swapped .is-parent .ensures ∙ ap isParent (swapped .before .column-before .ensures)) _ (drawn .before .new .ensures) _ (drawn .need-link-line .ensures) _ (q .loop3 .k)
     (omega (arith, c .before .before .before .loop3-test .left, q .before .before .reach-end .ensures)) (q .loop3 .inv) _ _ (t .before .before .before .before .before .before .before .is-head .ensures) (c .before .separator-line .ensures) _ (c .ended .ensures)
 
@@ -494,7 +492,7 @@ next-row-shape-spec =
     given-up-requires
     or-else-requires
     mul-was
-    array-copy-out-was
+    element-copy-out-was
     column-before-requires
     is-parent-requires
     mul-own-slot
@@ -526,7 +524,7 @@ next-row-shape-spec =
     reach-start-requires
     loop3-holds
     mul-bare
-    array-copy-out-bare
+    element-copy-out-bare
     column-before-requires-2
     mul-settled
     array-copy-out-settled
