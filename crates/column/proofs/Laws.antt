@@ -2,20 +2,21 @@
 use Prim.Native.Nat.{ℕ, zero, suc, _+_, _-_, _≤_, _<_, min, max}
 use mathlib.Core.Path.{_≡_, refl, ap, _∙_, sym}
 use mathlib.Core.Bool.{Bool, true, false, not, _&&_}
-use mathlib.Core.List.{List, [], _∷_, _++_, map}
-use native.Mathlib.Nat.{not-suc-le-zero, le-of-suc-le-suc}
+use mathlib.Core.List.{List, [], _∷_, _++_}
+use native.Mathlib.Nat.{not-suc-le-zero}
 use native.Mathlib.Numerals.{add-one}
 use native.Mathlib.Omega.{arith}
 use lib.ListN.{length, getD, drop, set, replicate, length-set, drop-of-length-le, length-replicate, getD-replicate, List·getD-eq-default}
 use lib.Dec.{ltb, eqb}
-use lib.Seq.{drop-cons, lt-length-set, set-out, drop-set-lt, getD-drop, getD-set-same, getD-set-other}
+use lib.Seq.{drop-cons, lt-length-set, set-out, getD-set-same, getD-set-other}
 use borrow.Author.Tests.{ltb-true, ltb-false, eqb-true, eqb-false}
 use Rattle.column.specs.declared.Column.{Column}
 use Rattle.column.specs.declared.Column.the-variants.{Empty, Blocked, Reserved, Ancestor, Parent}
 use Rattle.column.specs.declared.Slot.{Slot}
 use Rattle.column.specs.declared.Found.{Found}
 use Rattle.column.specs.declared.Found.the-variants.{At, Nothing}
-use Rattle.column.specs.Columns.{columnLimit, isEmpty, next, first, findEmpty, vacant, unblock, keep, trim, at, put, live, emptySlot, SpareEmpty}
+use Rattle.column.specs.Columns.{columnLimit, isEmpty, next, first, findEmpty, vacant, keep, trim, at, put, live, emptySlot, SpareEmpty}
+use Rattle.column.proofs.Places.{put-inside, put-end}
 use Rattle.column.proofs.Front.{length-front, front-getD, front-set, front-suc, front-clamp}
 
 abbrev pub columnOf : Slot → Column
@@ -182,13 +183,10 @@ module _ (p : Column → Bool) where
 
 -- ---- one column put: among those there are, or as a new last one
 pub put-set : (cs : List Column) (i : ℕ) (c : Column) → i < length cs → put cs i c ≡ set cs i c
-put-set [] i c h = absurd (not-suc-le-zero h)
-put-set (d ∷ cs) zero c h = refl
-put-set (d ∷ cs) (suc i) c h = ap (λ (r : List Column). d ∷ r) (put-set cs i c (le-of-suc-le-suc h))
+put-set = put-inside Empty
 
 pub put-last : (cs : List Column) (c : Column) → put cs (length cs) c ≡ cs ++ (c ∷ [])
-put-last [] c = refl
-put-last (d ∷ cs) c = ap (λ (r : List Column). d ∷ r) (put-last cs c)
+put-last = put-end Empty
 
 module _ (count i m : ℕ) (l : List Slot) (s : Slot) (k : i < length l) (h : i ≤ length (live count l)) (e : m ≡ min (max count (i + 1)) (length l)) where
   below : i < length (live count l) → live m (set l i s) ≡ put (live count l) i (s .column)
@@ -212,15 +210,3 @@ module _ (count i m : ℕ) (l : List Slot) (s : Slot) (k : i < length l) (h : i 
   -- a slot stored at i, and the count with it
   pub live-put : live m (set l i s) ≡ put (live count l) i (s .column)
   live-put = pick (ltb i (length (live count l))) refl
-
-  spare-at : (j : ℕ) → m ≤ j → j ≡ i → ⊥
-  spare-at j p q = omega (arith, length-front columnOf count l)
-
-  -- slots past the count stay as they were
-  pub spare-put : SpareEmpty count l → SpareEmpty m (set l i s)
-  spare-put g j p = past (ltb j count) refl (ltb j (length l)) refl
-    where
-      past : (b : Bool) → ltb j count ≡ b → (d : Bool) → ltb j (length l) ≡ d → (getD (set l i s) j emptySlot) .column ≡ Empty
-      past false q d r = rw (getD-set-other l i j s emptySlot (spare-at j p)) (g j (ltb-false _ _ q))
-      past true q false r = rw (getD-set-other l i j s emptySlot (spare-at j p), List·getD-eq-default l emptySlot {n = j} (ltb-false _ _ r))
-      past true q true r = absurd (omega (arith, ltb-true, length-front columnOf count l))

@@ -138,12 +138,16 @@ reset cs = trim (map unblock cs)
 abbrev pub at : List Column → ℕ → Column
 at cs i = getD cs i Empty
 
+-- place i of a list becomes x; where there is none yet, places that hold d are made up to it
+abbrev pub putWith : {A : Type 0} → A → List A → ℕ → A → List A
+putWith d [] zero x = x ∷ []
+putWith d [] (suc i) x = d ∷ putWith d [] i x
+putWith d (y ∷ l) zero x = x ∷ l
+putWith d (y ∷ l) (suc i) x = y ∷ putWith d l i x
+
 -- column i becomes c; where there is no column i yet, Empty ones are made up to it
 abbrev pub put : List Column → ℕ → Column → List Column
-put [] zero c = c ∷ []
-put [] (suc i) c = Empty ∷ put [] i c
-put (d ∷ cs) zero c = c ∷ cs
-put (d ∷ cs) (suc i) c = d ∷ put cs i c
+put cs i c = putWith Empty cs i c
 
 -- the live columns of an array of slots: its first n. The array has 64, so "a column count above 64 is read as 64" (01, "Where a call turns back")
 abbrev pub live : ℕ → List Slot → List Column

@@ -6,8 +6,8 @@ use borrow.Author.Tests.{ne-eqb, le-ltb}
 use mathlib.Core.List.{List, [], _∷_}
 use native.Mathlib.Numerals.{add-one}
 use native.Mathlib.Omega.{arith}
-use lib.ListN.{length, getD, take, drop, set, length-map, drop-of-length-le, List·getD-map}
-use lib.Seq.{drop-cons, getD-take}
+use lib.ListN.{length, getD, drop, drop-of-length-le}
+use lib.Seq.{drop-cons}
 use lib.Dec.{ltb, eqb}
 use Rattle.render.specs.Link.{strokes}
 use Rattle.column.proofs.Front.{length-front, front-getD}

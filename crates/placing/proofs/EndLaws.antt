@@ -6,12 +6,12 @@ use mathlib.Core.List.{List, [], _∷_, map}
 use native.Mathlib.Nat.{not-suc-le-zero, le-of-suc-le-suc}
 use native.Mathlib.Omega.{arith}
 use lib.Dec.{ltb}
-use lib.ListN.{length, getD, length-map, List·getD-eq-default}
+use lib.ListN.{length, getD, length-map}
 use borrow.Author.Tests.{ltb-true, ltb-false}
 use Rattle.column.specs.declared.Column.{Column}
 use Rattle.column.specs.declared.Column.the-variants.{Empty}
 use Rattle.column.specs.declared.Slot.{Slot}
-use Rattle.column.specs.Columns.{columnLimit, direct, unblock, trim, reset, at, live, emptySlot, withColumn, SpareEmpty}
+use Rattle.column.specs.Columns.{columnLimit, direct, unblock, trim, at, live, emptySlot, withColumn, SpareEmpty}
 use Rattle.column.proofs.Front.{length-front, front-clamp}
 use Rattle.column.proofs.Laws.{columnOf, trim-at, live-at}
 use Rattle.column.proofs.Positions.{past-end}

@@ -2,23 +2,23 @@
 -- entries on slots.
 use Prim.Native.Nat.{ℕ, zero, suc, _+_, _≤_, _<_, min, max}
 use mathlib.Core.Path.{_≡_, refl, ap, _∙_, sym}
-use mathlib.Core.Bool.{Bool, true, false, cond, not, _&&_, _||_}
+use mathlib.Core.Bool.{Bool, true, false, cond, _&&_, _||_}
 use mathlib.Core.List.{List, [], _∷_, map}
 use native.Mathlib.Numerals.{add-one}
 use native.Mathlib.Omega.{arith}
 use lib.Dec.{ltb, eqb}
 use lib.ListN.{length, getD, take, drop, set, replicate, length-set, drop-of-length-le, length-replicate, getD-replicate, List·getD-eq-default}
 use lib.Seq.{drop-cons, take-set-le, getD-set-same, getD-set-other}
-use borrow.Author.Tests.{ltb-true, ltb-false, lt-ltb, le-ltb, eqb-true, eqb-false, eq-eqb}
+use borrow.Author.Tests.{ltb-true, ltb-false, eqb-true, eqb-false}
 use Rattle.column.specs.declared.Column.{Column}
 use Rattle.column.specs.declared.Column.the-variants.{Empty, Blocked}
 use Rattle.column.specs.declared.Found.{Found}
 use Rattle.column.specs.declared.Found.the-variants.{At, Nothing}
 use Rattle.column.specs.declared.Slot.{Slot}
 use Rattle.column.specs.Columns.{columnLimit, isEmpty, first, findEmpty, orElse, merge, at, put, live, emptySlot}
-use Rattle.column.proofs.Front.{length-front, front-getD, front-set, front-clamp}
-use Rattle.column.proofs.Laws.{columnOf as slotColumn, first-below, live-put, live-at, put-set}
-use Rattle.column.proofs.Positions.{at-put-same, at-put-other, length-put, put-skip, at-live, past-end}
+use Rattle.column.proofs.Front.{length-front, front-getD, front-set}
+use Rattle.column.proofs.Laws.{columnOf as slotColumn, first-below, live-put, put-set}
+use Rattle.column.proofs.Positions.{at-put-same, at-put-other, length-put, put-skip, at-live}
 use Rattle.render.specs.declared.render.Ancestor.{Ancestor as Entry}
 use Rattle.render.specs.declared.render.Entry.{Entry as Entry₁}
 use Rattle.render.specs.declared.render.Ancestor.the-variants.{Ancestor as Indirect, Parent as Direct, Anonymous}

@@ -1,5 +1,5 @@
 -- What the swap gives, on slots and on who draws, in the words of the definitions in specs/Placing.antt.
-use Prim.Native.Nat.{ℕ, zero, suc, _≤_, _<_}
+use Prim.Native.Nat.{ℕ, zero, suc, _<_}
 use mathlib.Core.Path.{_≡_, refl, ap, _∙_, sym}
 use mathlib.Core.Bool.{Bool, true, false, cond, _&&_}
 use mathlib.Core.List.{List, [], _∷_}
@@ -7,7 +7,7 @@ use native.Mathlib.Omega.{arith}
 use lib.Dec.{ltb, eqb}
 use lib.ListN.{length, getD, set, length-set}
 use lib.Seq.{getD-set-same, getD-set-other}
-use borrow.Author.Tests.{ltb-true, ne-eqb, eq-eqb, eqb-true, eqb-false}
+use borrow.Author.Tests.{ne-eqb, eqb-true, eqb-false}
 use Rattle.column.specs.declared.Column.{Column}
 use Rattle.column.specs.declared.Column.the-variants.{Empty}
 use Rattle.column.specs.declared.Found.{Found}
@@ -23,7 +23,7 @@ use Rattle.links.specs.declared.Drawn.the-variants as drawn
 use Rattle.links.specs.declared.ParentColumn.{ParentColumn}
 use Rattle.links.specs.Links.{isAt}
 use Rattle.links.specs.Inner.{nobody, kindAt}
-use Rattle.placing.specs.Placing.{columnOf, parentColumn, enter, walk, gaveUp, swap, swapped, Met, Nobody, By, kindOf, metBy, drawsAt}
+use Rattle.placing.specs.Placing.{columnOf, parentColumn, enter, walk, gaveUp, swapped, Met, Nobody, By, kindOf, metBy, drawsAt}
 use Rattle.placing.proofs.PlacingLaws.{walk-more, Gone}
 
 -- a value stored where it stands changes nothing, twice

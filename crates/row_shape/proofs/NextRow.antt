@@ -28,7 +28,6 @@ use Rattle.render.specs.Lines.{blankCell}
 use Rattle.render.specs.Refusals.{refusal}
 use Rattle.render.proofs.EntryLaws.{few-count, few-given}
 use Rattle.links.specs.declared.Drawn.{Drawn}
-use Rattle.links.specs.declared.Drawn.the-variants.{Nobody}
 use Rattle.links.specs.declared.ParentColumn.{ParentColumn}
 use Rattle.links.specs.declared.Swap.{Swap}
 use Rattle.links.specs.declared.AncestorColumnBounds.{AncestorColumnBounds}
@@ -42,7 +41,7 @@ use Rattle.shaper.proofs.NodeLaws.{node-in, fitting-at, fitting-none, head-held
 use Rattle.placing.specs.Placing.{walk, gaveUp, swapped, Placed, placeAt, place, kindOf, drawsAt}
 use Rattle.placing.specs.Inner.{columnBefore, Ends}
 use Rattle.placing.proofs.PlacingLaws.{walk-more, opened-long, opened-is, before-is, Going, Gone, going-start, going-end, given-next, given-end}
-use Rattle.placing.proofs.SwapLaws.{other-inside, width-is, up-is, moved, moved-is, redrawn, redrawn-long, redrawn-is, kind-kept}
+use Rattle.placing.proofs.SwapLaws.{other-inside, width-is, up-is, moved-is, redrawn-long, redrawn-is, kind-kept}
 use Rattle.cells.specs.Cells.{cellsFrom, cellOf}
 use Rattle.cells.specs.Inner.{plainCell, cellWith}
 use Rattle.cells.proofs.CellLaws.{Keeps, cell-is, plain-cell-is, plain-shown, length-cells, cells-start, cells-next, cells-at, cells-past, cells-are}

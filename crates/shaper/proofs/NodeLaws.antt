@@ -2,7 +2,7 @@
 use Prim.Native.Nat.{ℕ, suc, _+_, _≤_, _<_, min}
 use mathlib.Core.Path.{_≡_, refl, ap, _∙_, sym}
 use mathlib.Core.Bool.{Bool, true, false, cond, not, _&&_, _||_}
-use mathlib.Core.List.{List, [], _∷_}
+use mathlib.Core.List.{List}
 use native.Mathlib.Numerals.{add-one}
 use native.Mathlib.Omega.{arith}
 use lib.Dec.{ltb, leb, eqb}
@@ -17,8 +17,7 @@ use Rattle.column.specs.Columns.{columnLimit, isEmpty, isReserved, first, orEls
 use Rattle.column.proofs.Laws.{first-below, live-at}
 use Rattle.render.specs.declared.types.Options.{Options}
 use Rattle.shaper.specs.Shaper.{heightLimit, View, viewWith}
-use Rattle.shaper.specs.NodeColumn.{dense, unallocated, headAt, head, staggered, nodeColumn, fitting, lookupRefusal, Finds}
-use Rattle.render.specs.Refusals.{_when_, refusal}
+use Rattle.shaper.specs.NodeColumn.{dense, unallocated, headAt, head, staggered, nodeColumn, fitting, Finds}
 
 -- ---- whether staggering counts, by the code's test
 pub not-dense : (b : Bool) (h : ℕ) → (not b || ltb 1 h) ≡ true → (b && leb (min h heightLimit) 1) ≡ false

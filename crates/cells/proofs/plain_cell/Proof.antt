@@ -22,7 +22,12 @@ column-to-pad-line-requires : tie.Need-column-to-pad-line-requires
 column-to-pad-line-requires c κs = search needs
 
 returns : tie.Need-returns
-returns c = rw (c .column-to-pad-line .ensures, c .before .link-cell2 .ensures, c .before .before .link-cell .ensures, c .before .before .before .column-to-node-line .ensures, c .before .before .before .before .with-uprights .ensures, c .before .before .before .before .before .none .ensures)
+returns c =
+    let at-link-cell = c .before .before in
+    let at-column-to-node-line = at-link-cell .before in
+    let at-with-uprights = at-column-to-node-line .before in
+    let at-none = at-with-uprights .before in
+    rw (c .column-to-pad-line .ensures, c .before .link-cell2 .ensures, at-link-cell .link-cell .ensures, at-column-to-node-line .column-to-node-line .ensures, at-with-uprights .with-uprights .ensures, at-none .none .ensures)
 
 pub plain-cell-spec : {M : Type 1} → statement M
 plain-cell-spec =

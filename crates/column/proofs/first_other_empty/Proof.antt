@@ -1,6 +1,7 @@
+-- The first Empty column but column `skip`.
 use Rattle.column.proofs.first_other_empty.Statement.{statement}
 use Rattle.column.proofs.first_other_empty.Tie as tie
-use Prim.Native.Nat.{_+_, _≤_, _-_}
+use Prim.Native.Nat.{_≤_, _-_}
 use mathlib.Core.Path.{_≡_, sym, _∙_}
 use native.Mathlib.Omega.{arith}
 use borrow.Author.Needs.{needs}
@@ -32,9 +33,12 @@ is-empty-requires : tie.Need-is-empty-requires Inv-loop μ-loop
 is-empty-requires c κs = search needs
 
 returns : tie.Need-returns Inv-loop μ-loop
-returns c = let a = c .before .before .before .before .before .before .args in
-    sym (c .before .before .before .before .loop .inv .1 ∙ first-hit isEmpty (set (live (a .count) (a .t1)) (a .skip) Blocked) (c .before .before .before .before .loop .place) (lt-length-set (live (a .count) (a .t1)) (a .skip) Blocked (live-below (a .count) (a .t1) (c .before .before .before .before .loop .place) (omega arith) (omega arith)))
-    (rw (other-empty (live (a .count) (a .t1)) (a .skip) (c .before .before .before .before .loop .place) (live-below (a .count) (a .t1) (c .before .before .before .before .loop .place) (omega arith) (omega arith)), live-at (a .count) (a .t1) (c .before .before .before .before .loop .place) (omega arith) (omega arith), ← c .before .is-empty .ensures) (c .if1 .taken)))
+returns c =
+    let at-loop = c .before .before .before .before in
+    let start = at-loop .before .before in
+    let a = start .args in
+    sym (at-loop .loop .inv .1 ∙ first-hit isEmpty (set (live (a .count) (a .t1)) (a .skip) Blocked) (at-loop .loop .place) (lt-length-set (live (a .count) (a .t1)) (a .skip) Blocked (live-below (a .count) (a .t1) (at-loop .loop .place) (omega arith) (omega arith)))
+    (rw (other-empty (live (a .count) (a .t1)) (a .skip) (at-loop .loop .place) (live-below (a .count) (a .t1) (at-loop .loop .place) (omega arith) (omega arith)), live-at (a .count) (a .t1) (at-loop .loop .place) (omega arith) (omega arith), ← c .before .is-empty .ensures) (c .if1 .taken)))
 
 add-place : tie.Need-add-place Inv-loop μ-loop
 add-place c = search needs
@@ -43,11 +47,14 @@ loop-less : tie.Need-loop-less Inv-loop μ-loop
 loop-less c = search needs
 
 loop-again : tie.Need-loop-again Inv-loop μ-loop
-loop-again c = let a = c .before .before .before .before .before .before .args in (
-  omega arith,
-  c .before .before .before .before .loop .inv .1 ∙ first-miss isEmpty (set (live (a .count) (a .t1)) (a .skip) Blocked) (c .before .before .before .before .loop .place) (lt-length-set (live (a .count) (a .t1)) (a .skip) Blocked (live-below (a .count) (a .t1) (c .before .before .before .before .loop .place) (omega arith) (omega arith)))
-      (rw (other-empty (live (a .count) (a .t1)) (a .skip) (c .before .before .before .before .loop .place) (live-below (a .count) (a .t1) (c .before .before .before .before .loop .place) (omega arith) (omega arith)), live-at (a .count) (a .t1) (c .before .before .before .before .loop .place) (omega arith) (omega arith), ← c .before .is-empty .ensures) (c .if1 .left)),
-)
+loop-again c =
+    let at-loop = c .before .before .before .before in
+    let start = at-loop .before .before in
+    let a = start .args in (
+      omega arith,
+      at-loop .loop .inv .1 ∙ first-miss isEmpty (set (live (a .count) (a .t1)) (a .skip) Blocked) (at-loop .loop .place) (lt-length-set (live (a .count) (a .t1)) (a .skip) Blocked (live-below (a .count) (a .t1) (at-loop .loop .place) (omega arith) (omega arith)))
+          (rw (other-empty (live (a .count) (a .t1)) (a .skip) (at-loop .loop .place) (live-below (a .count) (a .t1) (at-loop .loop .place) (omega arith) (omega arith)), live-at (a .count) (a .t1) (at-loop .loop .place) (omega arith) (omega arith), ← c .before .is-empty .ensures) (c .if1 .left)),
+    )
 
 returns-2 : tie.Need-returns-2 Inv-loop μ-loop
 returns-2 c = let a = c .before .before .before .args in

@@ -23,7 +23,8 @@ is-drawn-requires : tie.Need-is-drawn-requires
 is-drawn-requires c κs = search needs
 
 returns : tie.Need-returns
-returns c = let f = c .before .before .before .before .before .before .before in
+returns c =
+    let f = c .before .before .before .before .before .before .before in
     let a = f .before .before .before .before .before .args in
     marks-done (a .bounds) (a .swap) (a .index) (a .drawn) _ _ _ _ _ _ (f .before .before .before .before .passing .ensures) (f .before .before .is-some .ensures) (f .before .before .before .is-at .ensures) (c .is-drawn .ensures) (f .before .is-direct .ensures) (f .is-indirect .ensures)
 

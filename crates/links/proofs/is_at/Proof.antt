@@ -1,3 +1,4 @@
+-- Whether that column was found.
 use borrow.Author.Needs.{needs}
 use Rattle.links.proofs.is_at.Statement.{statement}
 use Rattle.links.proofs.is_at.Tie as tie

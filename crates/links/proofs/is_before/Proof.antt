@@ -1,3 +1,4 @@
+-- Whether a column right of that one was found.
 use borrow.Author.Needs.{needs}
 use Rattle.links.proofs.is_before.Statement.{statement}
 use Rattle.links.proofs.is_before.Tie as tie

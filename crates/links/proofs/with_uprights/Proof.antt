@@ -1,3 +1,4 @@
+-- Those marks with the lines that go straight on: the column's before the entries, but not where it was given up (`link_line`).
 use borrow.Author.Needs.{needs}
 use Rattle.links.proofs.with_uprights.Statement.{statement}
 use Rattle.links.proofs.with_uprights.Tie as tie

@@ -1,3 +1,4 @@
+-- The column that an entry merges as.
 use borrow.Author.Needs.{needs}
 use Rattle.placing.proofs.ancestor_to_column.Statement.{statement}
 use Rattle.placing.proofs.ancestor_to_column.Tie as tie

@@ -2,8 +2,8 @@
 use borrow.Author.Needs.{needs}
 use Rattle.placing.proofs.ended.Statement.{statement}
 use Rattle.placing.proofs.ended.Tie as tie
-use Prim.Native.Nat.{ℕ, _≤_, _-_}
-use mathlib.Core.Path.{_≡_, refl, ap, sym, _∙_}
+use Prim.Native.Nat.{_≤_, _-_}
+use mathlib.Core.Path.{_≡_, refl, sym, _∙_}
 use mathlib.Core.List.{map}
 use native.Mathlib.Omega.{arith}
 use lib.ListN.{length, length-map}

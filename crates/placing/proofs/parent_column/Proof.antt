@@ -2,7 +2,7 @@
 use borrow.Author.Needs.{needs}
 use Rattle.placing.proofs.parent_column.Statement.{statement}
 use Rattle.placing.proofs.parent_column.Tie as tie
-use Prim.Native.Nat.{_+_, _≤_, _-_}
+use Prim.Native.Nat.{_≤_, _-_}
 use mathlib.Core.Path.{_≡_, sym, _∙_}
 use native.Mathlib.Omega.{arith}
 use lib.ListN.{drop}

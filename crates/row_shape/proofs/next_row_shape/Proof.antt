@@ -3,11 +3,10 @@ use borrow.Author.Needs.{needs}
 use Rattle.row_shape.proofs.next_row_shape.Statement.{statement}
 use Rattle.row_shape.proofs.next_row_shape.Tie as tie
 use Prim.Native.Nat.{_≤_, _-_}
-use mathlib.Core.Path.{_≡_, refl, ap, sym, _∙_}
+use mathlib.Core.Path.{refl, ap, sym, _∙_}
 use native.Mathlib.Omega.{arith}
-use lib.ListN.{length}
 use Rattle.column.specs.declared.Column.the-variants.{Empty}
-use Rattle.column.specs.Columns.{columnLimit, isParent, put, live}
+use Rattle.column.specs.Columns.{isParent, put, live}
 use Rattle.render.specs.Entries.{given}
 use Rattle.shaper.proofs.Laws.{slots-long, entries-long}
 use Rattle.placing.proofs.PlacingLaws.{Going, going-over, going-next}

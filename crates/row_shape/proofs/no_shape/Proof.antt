@@ -1,3 +1,4 @@
+-- A shape without cells.
 use borrow.Author.Needs.{needs}
 use Rattle.row_shape.proofs.no_shape.Statement.{statement}
 use Rattle.row_shape.proofs.no_shape.Tie as tie

@@ -1,3 +1,4 @@
+-- A row that is refused.
 use borrow.Author.Needs.{needs}
 use Rattle.row_shape.proofs.refused_row.Statement.{statement}
 use Rattle.row_shape.proofs.refused_row.Tie as tie

@@ -1,3 +1,4 @@
+-- The node's column, where there is room for it: the one that holds its id, else another.
 use borrow.Author.Needs.{needs}
 use Rattle.shaper.proofs.find_column.Statement.{statement}
 use Rattle.shaper.proofs.find_column.Tie as tie

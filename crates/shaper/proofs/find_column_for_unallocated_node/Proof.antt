@@ -14,7 +14,8 @@ vacant-requires c κs = search needs
 
 returns : tie.Need-returns
 returns c =
-    let a = c .before .before .before .before .args in
+    let start = c .before .before .before .before in
+    let a = start .args in
     unallocated-plain (live (a .count) (a .slots)) (a .previous-node-column) (a .options) _ (c .before .if1 .taken) (c .vacant .ensures)
 
 enum-known-previous-node-column : tie.Need-enum-known-previous-node-column

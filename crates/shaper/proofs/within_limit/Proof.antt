@@ -1,3 +1,4 @@
+-- The column, where there is room for it.
 use Rattle.shaper.proofs.within_limit.Statement.{statement}
 use Rattle.shaper.proofs.within_limit.Tie as tie
 use native.Mathlib.Omega.{arith}

@@ -1,3 +1,4 @@
+-- A shaper without columns, and without a previous node.
 use borrow.Author.Needs.{needs}
 use Rattle.shaper.proofs.without_columns.Statement.{statement}
 use Rattle.shaper.proofs.without_columns.Tie as tie

@@ -1,3 +1,4 @@
+-- What is left where a node that no column holds is kept out of the previous node's column.
 use borrow.Author.Needs.{needs}
 use Rattle.width.proofs.apart.Statement.{statement}
 use Rattle.width.proofs.apart.Tie as tie
@@ -32,11 +33,16 @@ saturating-sub-requires : tie.Need-saturating-sub-requires
 saturating-sub-requires c κs = search needs
 
 returns-3 : tie.Need-returns-3
-returns-3 c = let a = c .before .before .before .before .before .before .before .args in
-    (apart-empty (a .count) (a .previous) (a .t1) (a .room) (omega arith) (omega arith) _ (sym (c .before .before .is-empty .ensures) ∙ c .before .if3 .taken) (c .saturating-sub .ensures), omega arith)
+returns-3 c =
+    let at-is-empty = c .before .before in
+    let start = at-is-empty .before .before .before .before .before in
+    let a = start .args in
+    (apart-empty (a .count) (a .previous) (a .t1) (a .room) (omega arith) (omega arith) _ (sym (at-is-empty .is-empty .ensures) ∙ c .before .if3 .taken) (c .saturating-sub .ensures), omega arith)
 
 returns-4 : tie.Need-returns-4
-returns-4 c = let a = c .before .before .before .before .before .before .args in
+returns-4 c =
+    let start = c .before .before .before .before .before .before in
+    let a = start .args in
     (apart-other (a .count) (a .previous) (a .t1) (a .room) (omega arith) (omega arith) (sym (c .before .is-empty .ensures) ∙ c .if3 .left), omega arith)
 
 pub apart-spec : {M : Type 1} → statement M

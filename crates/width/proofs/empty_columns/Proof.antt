@@ -1,3 +1,4 @@
+-- How many columns are Empty.
 use Rattle.width.proofs.empty_columns.Statement.{statement}
 use Rattle.width.proofs.empty_columns.Tie as tie
 use Prim.Native.Nat.{_≤_, _-_}
@@ -30,7 +31,9 @@ is-empty-requires : tie.Need-is-empty-requires Inv-loop μ-loop
 is-empty-requires c κs = search needs
 
 add-empty : tie.Need-add-empty Inv-loop μ-loop
-add-empty c = omega (arith, c .before .before .before .before .loop .inv .1 .most)
+add-empty c =
+    let at-loop = c .before .before .before .before in
+    omega (arith, at-loop .loop .inv .1 .most)
 
 add-i : tie.Need-add-i Inv-loop μ-loop
 add-i c = search needs
@@ -39,8 +42,11 @@ loop-less : tie.Need-loop-less Inv-loop μ-loop
 loop-less c = search needs
 
 loop-again : tie.Need-loop-again Inv-loop μ-loop
-loop-again c = let a = c .before .before .before .before .before .before .args in
-    let l = c .before .before .before .before .loop in (
+loop-again c =
+    let at-loop = c .before .before .before .before in
+    let start = at-loop .before .before in
+    let a = start .args in
+    let l = at-loop .loop in (
       omega arith,
       ⊎-elim
           (λ w. counting-hit isEmpty (live (a .count) (a .t1)) (l .i) (l .empty) (l .inv .1) _ (live-next (a .count) (a .t1) (l .i) (omega arith) (omega arith)) _ (sym (c .before .is-empty .ensures) ∙ w .0 .taken) (w .1))

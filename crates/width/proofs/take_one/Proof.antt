@@ -1,3 +1,4 @@
+-- The node takes an Empty column, else a new one.
 use borrow.Author.Needs.{needs}
 use Rattle.width.proofs.take_one.Statement.{statement}
 use Rattle.width.proofs.take_one.Tie as tie

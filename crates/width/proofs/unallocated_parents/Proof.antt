@@ -38,7 +38,9 @@ enum-told : tie.Need-enum-told Inv-loop μ-loop
 enum-told c = search needs
 
 add-unallocated : tie.Need-add-unallocated Inv-loop μ-loop
-add-unallocated c = omega (arith, c .before .before .before .before .before .loop .inv .2 .most)
+add-unallocated c =
+    let at-loop = c .before .before .before .before .before in
+    omega (arith, at-loop .loop .inv .2 .most)
 
 enum-told-2 : tie.Need-enum-told-2 Inv-loop μ-loop
 enum-told-2 c = search needs
@@ -50,8 +52,11 @@ loop-less : tie.Need-loop-less Inv-loop μ-loop
 loop-less c = search needs
 
 loop-again : tie.Need-loop-again Inv-loop μ-loop
-loop-again c = let a = c .before .before .before .before .before .before .args in
-    let l = c .before .before .before .before .loop in
+loop-again c =
+    let at-loop = c .before .before .before .before in
+    let start = at-loop .before .before in
+    let a = start .args in
+    let l = at-loop .loop in
     let t = unheld (live (a .count) (a .slots)) in (
       omega arith,
       l .inv .1,

@@ -24,8 +24,12 @@ room-for-requires : tie.Need-room-for-requires
 room-for-requires c κs = search needs
 
 unallocated-parents-requires : tie.Need-unallocated-parents-requires
-unallocated-parents-requires c κs = let a = c .before .before .before .before .before .before .args in
-    few-count (a .entries) (sym (c .before .before .before .before .before .are-too-many .ensures) ∙ c .before .before .before .before .if1 .left)
+unallocated-parents-requires c κs =
+    let at-if1 = c .before .before .before .before in
+    let at-are-too-many = at-if1 .before in
+    let start = at-are-too-many .before in
+    let a = start .args in
+    few-count (a .entries) (sym (at-are-too-many .are-too-many .ensures) ∙ at-if1 .if1 .left)
 
 saturating-sub-requires : tie.Need-saturating-sub-requires
 saturating-sub-requires c κs = search needs

@@ -1,3 +1,4 @@
+-- Ancestor becomes Parent; any other column stays.
 use borrow.Author.Needs.{needs}
 use Rattle.column.proofs.Column.convert_ancestor_to_parent.Statement.{statement}
 use Rattle.column.proofs.Column.convert_ancestor_to_parent.Tie as tie

@@ -1,3 +1,4 @@
+-- Whether the column holds the id.
 use borrow.Author.Needs.{needs}
 use Rattle.column.proofs.Column.matches.Statement.{statement}
 use Rattle.column.proofs.Column.matches.Tie as tie

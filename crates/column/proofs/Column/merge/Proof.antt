@@ -1,3 +1,4 @@
+-- The column after `other` is merged into it: only a higher rank replaces it.
 use borrow.Author.Needs.{needs}
 use Rattle.column.proofs.Column.merge.Statement.{statement}
 use Rattle.column.proofs.Column.merge.Tie as tie

@@ -1,3 +1,4 @@
+-- The slot's column where the slot at `index` is live, else Empty.
 use Rattle.column.proofs.Slot.column_at.Statement.{statement}
 use Rattle.column.proofs.Slot.column_at.Tie as tie
 use native.Mathlib.Omega.{arith}

@@ -1,3 +1,4 @@
+-- Whether the row has a link line: an entry's column, or the one given up, is not the node's own.
 use borrow.Author.Needs.{needs}
 use Rattle.links.proofs.AncestorColumnBounds.need_link_line.Statement.{statement}
 use Rattle.links.proofs.AncestorColumnBounds.need_link_line.Tie as tie

@@ -3,7 +3,7 @@ use borrow.Author.Needs.{needs}
 use Rattle.links.proofs.AncestorColumnBounds.new.Statement.{statement}
 use Rattle.links.proofs.AncestorColumnBounds.new.Tie as tie
 use Prim.Native.Nat.{_≤_, _-_}
-use mathlib.Core.Path.{_≡_, sym}
+use mathlib.Core.Path.{sym}
 use native.Mathlib.Omega.{arith}
 use Rattle.links.specs.Inner.{kinds}
 use Rattle.links.proofs.LinkLaws.{Bounding, bounding-start, bounding-column, bounding-end, kinds-at, kinds-below, kinds-past}
@@ -33,8 +33,11 @@ loop-less : tie.Need-loop-less Inv-loop μ-loop
 loop-less c = search needs
 
 loop-again : tie.Need-loop-again Inv-loop μ-loop
-loop-again c = let a = c .before .before .before .before .before .args in
-    let l = c .before .before .before .loop in
+loop-again c =
+    let at-loop = c .before .before .before in
+    let start = at-loop .before .before in
+    let a = start .args in
+    let l = at-loop .loop in
     (omega arith, bounding-column _ _ (l .i) (l .bounds) _ _ (kinds-below (a .width) (a .t1) (l .i) (omega arith) (omega arith)) (sym (kinds-at (a .width) (a .t1) (l .i) (omega arith) (omega arith))) (c .with-column .ensures) (l .inv .1))
 
 returns : tie.Need-returns Inv-loop μ-loop

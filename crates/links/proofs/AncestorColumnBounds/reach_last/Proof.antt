@@ -1,3 +1,4 @@
+-- The last column that they reach.
 use borrow.Author.Needs.{needs}
 use Rattle.links.proofs.AncestorColumnBounds.reach_last.Statement.{statement}
 use Rattle.links.proofs.AncestorColumnBounds.reach_last.Tie as tie

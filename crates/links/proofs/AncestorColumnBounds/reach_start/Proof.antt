@@ -1,3 +1,4 @@
+-- The first column that the entries or the swap reach.
 use borrow.Author.Needs.{needs}
 use Rattle.links.proofs.AncestorColumnBounds.reach_start.Statement.{statement}
 use Rattle.links.proofs.AncestorColumnBounds.reach_start.Tie as tie

@@ -28,7 +28,14 @@ greatest-requires-2 : tie.Need-greatest-requires-2
 greatest-requires-2 c κs = search needs
 
 returns : tie.Need-returns
-returns c = rw (c .greatest2 .ensures, c .before .greatest .ensures, c .before .before .least2 .ensures, c .before .before .before .least .ensures, c .before .before .before .before .pick2 .ensures, c .before .before .before .before .before .is-direct .ensures, c .before .before .before .before .before .before .pick .ensures, c .before .before .before .before .before .before .before .is-drawn .ensures)
+returns c =
+    let at-least2 = c .before .before in
+    let at-least = at-least2 .before in
+    let at-pick2 = at-least .before in
+    let at-is-direct = at-pick2 .before in
+    let at-pick = at-is-direct .before in
+    let at-is-drawn = at-pick .before in
+    rw (c .greatest2 .ensures, c .before .greatest .ensures, at-least2 .least2 .ensures, at-least .least .ensures, at-pick2 .pick2 .ensures, at-is-direct .is-direct .ensures, at-pick .pick .ensures, at-is-drawn .is-drawn .ensures)
 
 pub reaching-spec : {M : Type 1} → statement M
 reaching-spec =

@@ -1,9 +1,10 @@
+-- The new shaper call: a shaper with the options given.
 use borrow.Author.Needs.{needs}
 use Rattle.shaper.proofs.Shaper.with_options.Statement.{statement}
 use Rattle.shaper.proofs.Shaper.with_options.Tie as tie
 use native.Mathlib.Omega.{arith}
 use Rattle.shaper.proofs.Laws.{new-refused, new-done}
-use mathlib.Core.Path.{_∙_, ap}
+use mathlib.Core.Path.{_∙_}
 
 default-style-requires : tie.Need-default-style-requires
 default-style-requires c κs = search needs
