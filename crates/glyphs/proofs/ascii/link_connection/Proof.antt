@@ -1,3 +1,4 @@
+-- The connecting line of a link cell.
 use Rattle.glyphs.specs.Ascii.{connection}
 use borrow.Author.Needs.{needs}
 use Rattle.glyphs.proofs.ascii.link_connection.Statement.{statement}

@@ -1,3 +1,4 @@
+-- The parent or ancestor line of a link cell.
 use Rattle.glyphs.specs.Ascii.{upright}
 use borrow.Author.Needs.{needs}
 use Rattle.glyphs.proofs.ascii.link_upright.Statement.{statement}

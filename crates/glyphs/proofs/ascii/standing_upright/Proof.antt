@@ -1,3 +1,4 @@
+-- The upright of a link cell that has no horizontal stroke.
 use Rattle.glyphs.specs.Ascii.{standing}
 use borrow.Author.Needs.{needs}
 use Rattle.glyphs.proofs.ascii.standing_upright.Statement.{statement}

@@ -1,3 +1,4 @@
+-- A link cell with a horizontal stroke.
 use Rattle.glyphs.specs.BoxDrawing.{across}
 use borrow.Author.Needs.{needs}
 use Rattle.glyphs.proofs.box_drawing.horizontal_link.Statement.{statement}

@@ -1,3 +1,4 @@
+-- The glyph's number of a link cell, ANCESTOR for a dashed upright of either style.
 use Rattle.glyphs.specs.BoxDrawing.{boxLink}
 use borrow.Author.Needs.{needs}
 use Rattle.glyphs.proofs.box_drawing.link_glyph.Statement.{statement}

@@ -1,3 +1,4 @@
+-- A link cell with neither a horizontal stroke nor an upright.
 use Rattle.glyphs.specs.BoxDrawing.{beside}
 use borrow.Author.Needs.{needs}
 use Rattle.glyphs.proofs.box_drawing.other_link.Statement.{statement}

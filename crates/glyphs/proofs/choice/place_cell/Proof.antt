@@ -1,3 +1,4 @@
+-- Writes the bytes of a cell in a line from `at` on, by eight places, and gives their count.
 use borrow.Author.Needs.{needs}
 use Rattle.glyphs.proofs.choice.place_cell.Statement.{statement}
 use Rattle.glyphs.proofs.choice.place_cell.Tie as tie
