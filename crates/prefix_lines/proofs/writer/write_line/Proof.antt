@@ -19,18 +19,24 @@ shown : (c : tie.Then1) → isPresent (c .before .before .before .args .renderer
 shown c = sym (c .before .is-present .ensures) ∙ c .if1 .taken
 
 -- and it fits
-fits : (c : tie.Then1) → length (cellsText (entry (c .before .before .before .args .table .now)) (c .before .before .before .args .renderer) (c .before .before .before .args .row) (c .before .before .before .args .mark) (take (c .before .before .before .args .width) (c .before .before .before .args .cells)) (c .before .before .before .args .line)) + frameLength (c .before .before .before .args .frame) ≤ length (c .before .before .before .args .out .now)
+fits : (c : tie.Then1) → (let a = c .before .before .before .args in length (cellsText (entry (a .table .now)) (a .renderer) (a .row) (a .mark) (take (a .width) (a .cells)) (a .line)) + frameLength (a .frame) ≤ length (a .out .now))
 fits c = let a = c .before .before .before .args in omega (arith, present-length (a .frame) (entry (a .table .now)) (a .renderer) (a .row) (a .mark) (a .line) (take (a .width) (a .cells)) (shown c))
 
 -- what stands before the cells is written
 begun : (c : tie.After-slice-known2) → c .before .before .write-opening .result ≤ length (c .before .before .write-opening .last .0)
-begun c = let a = c .before .before .before .before .before .before .before .args in omega (arith, fits (c .before .before .before .before), frame-parts (a .frame) (a .line), c .before .before .write-opening .ensures .0, c .before .before .write-opening .kept .0)
+begun c =
+    let at-write-opening = c .before .before in
+    let at-test = at-write-opening .before .before in
+    let a = at-test .before .before .before .args in
+    omega (arith, fits at-test, frame-parts (a .frame) (a .line), at-write-opening .write-opening .ensures .0, at-write-opening .write-opening .kept .0)
 
 -- the cells are put back in place
 whole : (c : tie.After-slice-known3)
-    → length (take (c .before .before .before .before .before .before .write-opening .result) (c .before .before .before .before .before .before .write-opening .last .0) ++ (c .before .before .write-cells .last .0
-    ++ drop (length (c .before .before .before .before .before .before .write-opening .last .0) - c .before .before .before .before .before .before .write-opening .result) (drop (c .before .before .before .before .before .before .write-opening .result) (c .before .before .before .before .before .before .write-opening .last .0))))
-    ≡ length (c .before .before .before .before .before .before .before .before .before .before .before .args .out .now)
+    → (let at-write-opening = c .before .before .before .before .before .before in
+    let o = at-write-opening .write-opening in
+    length (take (o .result) (o .last .0) ++ (c .before .before .write-cells .last .0
+    ++ drop (length (o .last .0) - o .result) (drop (o .result) (o .last .0))))
+    ≡ length (at-write-opening .before .before .before .before .before .args .out .now))
 whole c =
     let w = c .before .before .before .before .before .before .write-opening in
     part-length (w .last .0) (c .before .before .write-cells .last .0) (w .result) (c .before .before .write-cells .kept .0) (begun (c .before .before .before .before)) ∙ w .kept .0
