@@ -1,3 +1,4 @@
+-- Whether a message may hold each of the bytes.
 use Rattle.message.proofs.are_writable.Statement.{statement}
 use Rattle.message.proofs.are_writable.Tie as tie
 use Prim.Native.Nat.{_≤_, _-_}

@@ -1,3 +1,4 @@
+-- 1 for a byte that ends a line, else 0.
 use Rattle.message.proofs.ended_by.Statement.{statement}
 use Rattle.message.proofs.ended_by.Tie as tie
 use native.Mathlib.Omega.{arith}

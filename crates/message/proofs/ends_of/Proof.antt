@@ -1,3 +1,4 @@
+-- How many of a few bytes end a line.
 use Rattle.message.proofs.ends_of.Statement.{statement}
 use Rattle.message.proofs.ends_of.Tie as tie
 use Prim.Native.Nat.{_≤_, _+_, _-_}
@@ -33,8 +34,11 @@ loop-less : tie.Need-loop-less Inv-loop μ-loop
 loop-less c = search needs
 
 loop-again : tie.Need-loop-again Inv-loop μ-loop
-loop-again c = let l = c .before .before .before .loop in
-    (omega arith, l .inv .1, omega (arith, l .inv .2, c .ended-by .ensures .1), omega (arith, l .inv .3, ends-next (c .before .before .before .before .before .args .bytes .now) (l .i) (c .ended-by .result) (omega arith) (c .ended-by .ensures .0)))
+loop-again c =
+    let at-loop = c .before .before .before in
+    let a = at-loop .before .before .args in
+    let l = at-loop .loop in
+    (omega arith, l .inv .1, omega (arith, l .inv .2, c .ended-by .ensures .1), omega (arith, l .inv .3, ends-next (a .bytes .now) (l .i) (c .ended-by .result) (omega arith) (c .ended-by .ensures .0)))
 
 returns : tie.Need-returns Inv-loop μ-loop
 returns c = let l = c .before .loop in omega (arith, l .inv .3, ends-none (c .before .before .before .args .bytes .now) (l .i) (omega arith))

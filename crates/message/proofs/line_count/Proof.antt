@@ -1,3 +1,4 @@
+-- How many lines a message has: those that are ended, and one more unless the last byte ends one.
 use borrow.Author.Needs.{needs}
 use Rattle.message.proofs.line_count.Statement.{statement}
 use Rattle.message.proofs.line_count.Tie as tie
@@ -18,13 +19,19 @@ shared-slice-read-if2 : tie.Need-shared-slice-read-if2
 shared-slice-read-if2 c = search needs
 
 returns-2 : tie.Need-returns-2
-returns-2 c = count-ended (c .before .before .before .before .before .args .message .now) _ _ (c .before .before .before .line-ends .ensures .0) refl (omega arith) (c .if2 .taken)
+returns-2 c =
+    let at-line-ends = c .before .before .before in
+    let a = at-line-ends .before .before .args in
+    count-ended (a .message .now) _ _ (at-line-ends .line-ends .ensures .0) refl (omega arith) (c .if2 .taken)
 
 add-result : tie.Need-add-result
 add-result c = search needs
 
 returns-3 : tie.Need-returns-3
-returns-3 c = count-open (c .before .before .before .before .before .args .message .now) _ _ (c .before .before .before .line-ends .ensures .0) refl (omega arith) (c .if2 .left)
+returns-3 c =
+    let at-line-ends = c .before .before .before in
+    let a = at-line-ends .before .before .args in
+    count-open (a .message .now) _ _ (at-line-ends .line-ends .ensures .0) refl (omega arith) (c .if2 .left)
 
 pub line-count-spec : {M : Type 1} → statement M
 line-count-spec =

@@ -1,3 +1,4 @@
+-- Where the line from `start` on ends: at the next 0A, or where the message ends.
 use Rattle.message.proofs.line_end.Statement.{statement}
 use Rattle.message.proofs.line_end.Tie as tie
 use Prim.Native.Nat.{_≤_, _+_, _-_}
@@ -24,7 +25,10 @@ shared-slice-read-if1 : tie.Need-shared-slice-read-if1 Inv-loop μ-loop
 shared-slice-read-if1 c = search needs
 
 returns : tie.Need-returns Inv-loop μ-loop
-returns c = let l = c .before .before .before .loop in omega (arith, length-here (c .before .before .before .before .before .before .args .message .now) (l .end) (search needs) (c .if1 .taken), l .inv .1)
+returns c =
+    let at-loop = c .before .before .before in
+    let a = at-loop .before .before .before .args in
+    let l = at-loop .loop in omega (arith, length-here (a .message .now) (l .end) (search needs) (c .if1 .taken), l .inv .1)
 
 add-end : tie.Need-add-end Inv-loop μ-loop
 add-end c = search needs
@@ -33,11 +37,16 @@ loop-less : tie.Need-loop-less Inv-loop μ-loop
 loop-less c = search needs
 
 loop-again : tie.Need-loop-again Inv-loop μ-loop
-loop-again c = let l = c .before .before .before .loop in
-    (search needs, omega (arith, length-more (c .before .before .before .before .before .before .args .message .now) (l .end) (search needs) (c .if1 .left), l .inv .1))
+loop-again c =
+    let at-loop = c .before .before .before in
+    let a = at-loop .before .before .before .args in
+    let l = at-loop .loop in
+    (search needs, omega (arith, length-more (a .message .now) (l .end) (search needs) (c .if1 .left), l .inv .1))
 
 returns-2 : tie.Need-returns-2 Inv-loop μ-loop
-returns-2 c = let l = c .before .loop in omega (arith, length-past (c .before .before .before .before .args .message .now) (l .end) (search needs), l .inv .1)
+returns-2 c =
+    let a = c .before .before .before .before .args in
+    let l = c .before .loop in omega (arith, length-past (a .message .now) (l .end) (search needs), l .inv .1)
 
 pub line-end-spec : {M : Type 1} → statement M
 line-end-spec =

@@ -1,3 +1,4 @@
+-- How many of a message's lines are ended.
 use Rattle.message.proofs.line_ends.Statement.{statement}
 use Rattle.message.proofs.line_ends.Tie as tie
 use Prim.Native.Nat.{_≤_, _+_, _-_}
@@ -30,24 +31,32 @@ part-ends-of-end : tie.Need-part-ends-of-end Inv-loop μ-loop
 part-ends-of-end c = search needs
 
 ends-of-requires : tie.Need-ends-of-requires Inv-loop μ-loop
-ends-of-requires c κs = let m = c .before .before .before .before .before .args .message .now in
-    let l = c .before .before .before .loop in omega (arith, block-long m (l .at) (c .before .block-end .result) (omega arith))
+ends-of-requires c κs =
+    let at-loop = c .before .before .before in
+    let m = at-loop .before .before .args .message .now in
+    let l = at-loop .loop in omega (arith, block-long m (l .at) (c .before .block-end .result) (omega arith))
 
 cast-count : tie.Need-cast-count Inv-loop μ-loop
 cast-count c = search needs
 
 add-count : tie.Need-add-count Inv-loop μ-loop
-add-count c = let m = c .before .before .before .before .before .before .args .message .now in
-    let l = c .before .before .before .before .loop in
-    omega (arith, l .inv .1, c .ends-of .ensures, ends-few (block (l .at) (c .before .before .block-end .result) m), block-long m (l .at) (c .before .before .block-end .result) (omega arith))
+add-count c =
+    let at-block-end = c .before .before in
+    let at-loop = at-block-end .before .before in
+    let m = at-loop .before .before .args .message .now in
+    let l = at-loop .loop in
+    omega (arith, l .inv .1, c .ends-of .ensures, ends-few (block (l .at) (at-block-end .block-end .result) m), block-long m (l .at) (at-block-end .block-end .result) (omega arith))
 
 loop-less : tie.Need-loop-less Inv-loop μ-loop
 loop-less c = search needs
 
 loop-again : tie.Need-loop-again Inv-loop μ-loop
-loop-again c = let m = c .before .before .before .before .before .before .args .message .now in
-    let l = c .before .before .before .before .loop in
-    (omega arith, omega (arith, l .inv .1, c .ends-of .ensures, ends-few (block (l .at) (c .before .before .block-end .result) m), block-long m (l .at) (c .before .before .block-end .result) (omega arith)), omega (arith, l .inv .2, c .ends-of .ensures, ends-block m (l .at) (c .before .before .block-end .result) (omega arith)))
+loop-again c =
+    let at-block-end = c .before .before in
+    let at-loop = at-block-end .before .before in
+    let m = at-loop .before .before .args .message .now in
+    let l = at-loop .loop in
+    (omega arith, omega (arith, l .inv .1, c .ends-of .ensures, ends-few (block (l .at) (at-block-end .block-end .result) m), block-long m (l .at) (at-block-end .block-end .result) (omega arith)), omega (arith, l .inv .2, c .ends-of .ensures, ends-block m (l .at) (at-block-end .block-end .result) (omega arith)))
 
 returns : tie.Need-returns Inv-loop μ-loop
 returns c = let l = c .before .loop in (omega (arith, l .inv .2, ends-none (c .before .before .before .args .message .now) (l .at) (omega arith)), omega (arith, l .inv .1))

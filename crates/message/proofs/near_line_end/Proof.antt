@@ -1,3 +1,4 @@
+-- The end of the line from `start` on, or a place before it: blocks that end no line are passed over.
 use Rattle.message.proofs.near_line_end.Statement.{statement}
 use Rattle.message.proofs.near_line_end.Tie as tie
 use Prim.Native.Nat.{_≤_, _+_, _-_}
@@ -37,8 +38,10 @@ part-ends-of-end : tie.Need-part-ends-of-end Inv-loop μ-loop
 part-ends-of-end c = search needs
 
 ends-of-requires : tie.Need-ends-of-requires Inv-loop μ-loop
-ends-of-requires c κs = let m = c .before .before .before .before .before .args .message .now in
-    let l = c .before .before .before .loop in omega (arith, block-long m (l .end) (l .end + blockLength) (omega arith))
+ends-of-requires c κs =
+    let at-loop = c .before .before .before in
+    let m = at-loop .before .before .args .message .now in
+    let l = at-loop .loop in omega (arith, block-long m (l .end) (l .end + blockLength) (omega arith))
 
 returns-2 : tie.Need-returns-2 Inv-loop μ-loop
 returns-2 c = c .before .before .before .before .before .loop .inv
@@ -50,8 +53,10 @@ loop-less : tie.Need-loop-less Inv-loop μ-loop
 loop-less c = search needs
 
 loop-again : tie.Need-loop-again Inv-loop μ-loop
-loop-again c = let m = c .before .before .before .before .before .before .before .args .message .now in
-    let l = c .before .before .before .before .before .loop in
+loop-again c =
+    let at-loop = c .before .before .before .before .before in
+    let m = at-loop .before .before .args .message .now in
+    let l = at-loop .loop in
     (omega (arith, l .inv .0), l .inv .1 ∙ line-block m (l .end) (l .end + blockLength) (omega arith) (omega arith) (sym (c .before .ends-of .ensures) ∙ c .if2 .left))
 
 returns-3 : tie.Need-returns-3 Inv-loop μ-loop

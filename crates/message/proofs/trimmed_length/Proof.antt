@@ -1,3 +1,4 @@
+-- The length of a line without the blanks at its end (`trim_end`).
 use mathlib.Core.Path.{_≡_, sym, ap, _∙_}
 use Prim.Native.Nat.{_≤_}
 use lib.ListN.{length, take}

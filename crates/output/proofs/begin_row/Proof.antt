@@ -1,3 +1,4 @@
+-- Puts what stands between the row before and this one: the queued line, and the separator.
 use mathlib.Core.Path.{refl, ap, sym, _∙_}
 use mathlib.Core.Bool.{Bool, _&&_}
 use native.Mathlib.Omega.{arith}
@@ -18,8 +19,9 @@ same-length c = search needs
 
 returns : tie.Need-returns
 returns c =
-    let a = c .before .before .before .before .before .before .before .args in
-    let f = c .before .before .before .before .flush-queued-pad-line in
+    let at-flush-queued-pad-line = c .before .before .before .before in
+    let a = at-flush-queued-pad-line .before .before .before .args in
+    let f = at-flush-queued-pad-line .flush-queued-pad-line in
     separator-none (a .separator-line) (a .state) _ _ _ (f .ensures) (ap (λ (x : Bool). a .separator-line && x) (sym (c .before .is-one-line .ensures)) ∙ not-true _ (c .if1 .taken))
 
 sub-put-line : tie.Need-sub-put-line
@@ -36,8 +38,11 @@ put-line-requires c κs = search needs
 
 add-t17 : tie.Need-add-t17
 add-t17 c =
-    let a = c .before .before .before .before .before .before .before .before .before .before .before .before .before .before .args in
-    omega (arith, queue-short (a .state) (queue-long (a .state .«queued_pad_line») _ (c .before .before .before .before .before .before .before .before .before .before .before .before .before .before .good .1 .0 .1 .1 .0 .1 .0 .1)), c .before .before .before .before .before .before .before .before .before .before .before .flush-queued-pad-line .ensures .count, c .before .before .before .put-line .ensures .count)
+    let at-put-line = c .before .before .before in
+    let at-flush-queued-pad-line = at-put-line .before .before .before .before .before .before .before .before in
+    let start = at-flush-queued-pad-line .before .before .before in
+    let a = start .args in
+    omega (arith, queue-short (a .state) (queue-long (a .state .«queued_pad_line») _ (start .good .1 .0 .1 .1 .0 .1 .0 .1)), at-flush-queued-pad-line .flush-queued-pad-line .ensures .count, at-put-line .put-line .ensures .count)
 
 greater-requires : tie.Need-greater-requires
 greater-requires c κs = search needs
@@ -47,9 +52,13 @@ same-length-2 c = search needs
 
 returns-2 : tie.Need-returns-2
 returns-2 c =
-    let a = c .before .before .before .before .before .before .before .before .before .before .before .before .before .before .before .args in
-    let f = c .before .before .before .before .before .before .before .before .before .before .before .before .flush-queued-pad-line in
-    separator-there (a .separator-line) (a .state) _ _ _ (f .ensures) _ (c .before .before .before .before .put-line .result) _ (ap (λ (x : Bool). a .separator-line && x) (sym (c .before .before .before .before .before .before .before .before .before .is-one-line .ensures)) ∙ not-false _ (c .before .before .before .before .before .before .before .before .if1 .left)) (f .kept .0) (c .before .before .before .before .put-line .ensures) refl (c .greater .ensures)
+    let at-put-line = c .before .before .before .before in
+    let at-if1 = at-put-line .before .before .before .before in
+    let at-is-one-line = at-if1 .before in
+    let at-flush-queued-pad-line = at-is-one-line .before .before .before in
+    let a = at-flush-queued-pad-line .before .before .before .args in
+    let f = at-flush-queued-pad-line .flush-queued-pad-line in
+    separator-there (a .separator-line) (a .state) _ _ _ (f .ensures) _ (at-put-line .put-line .result) _ (ap (λ (x : Bool). a .separator-line && x) (sym (at-is-one-line .is-one-line .ensures)) ∙ not-false _ (at-if1 .if1 .left)) (f .kept .0) (at-put-line .put-line .ensures) refl (c .greater .ensures)
 
 pub begin-row-spec : {M : Type 1} → statement M
 begin-row-spec =

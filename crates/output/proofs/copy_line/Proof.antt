@@ -1,3 +1,4 @@
+-- Writes the first n bytes of a line and the line's end.
 use mathlib.Core.Path.{_≡_, refl, sym}
 use Prim.Native.Nat.{_≤_, _<_, _-_}
 use native.Mathlib.Omega.{arith}

@@ -1,3 +1,4 @@
+-- Puts the queued line, if there is one (`flush_queued_pad_line`).
 use native.Mathlib.Omega.{arith}
 use borrow.Author.Tests.{not-true, not-false}
 use Rattle.output.proofs.PutLaws.{queue-long, queue-none, queue-there}
@@ -21,8 +22,10 @@ part-put-line-start c = search needs
 
 part-put-line-end : tie.Need-part-put-line-end
 part-put-line-end c =
-    let a = c .before .before .before .before .before .before .before .args in
-    omega (arith, c .before .before .queue-length .ensures, queue-long (a .state .«queued_pad_line») _ (c .before .before .before .before .before .before .before .good .1 .0 .1 .1 .0 .1 .0 .1))
+    let at-queue-length = c .before .before in
+    let start = at-queue-length .before .before .before .before .before in
+    let a = start .args in
+    omega (arith, at-queue-length .queue-length .ensures, queue-long (a .state .«queued_pad_line») _ (start .good .1 .0 .1 .1 .0 .1 .0 .1))
 
 put-line-requires : tie.Need-put-line-requires
 put-line-requires c κs = search needs
@@ -32,8 +35,12 @@ same-length c = search needs
 
 returns-2 : tie.Need-returns-2
 returns-2 c =
-    let a = c .before .before .before .before .before .before .before .before .before .before .before .args in
-    queue-there (a .state) (queue-long (a .state .«queued_pad_line») _ (c .before .before .before .before .before .before .before .before .before .before .before .good .1 .0 .1 .1 .0 .1 .0 .1)) _ _ _ _ (not-false _ (c .before .before .before .before .before .before .before .before .if1 .left)) (c .before .before .before .before .before .before .queue-length .ensures) (c .before .before .put-line .ensures)
+    let at-put-line = c .before .before in
+    let at-queue-length = at-put-line .before .before .before .before in
+    let at-if1 = at-queue-length .before .before in
+    let start = at-if1 .before .before .before in
+    let a = start .args in
+    queue-there (a .state) (queue-long (a .state .«queued_pad_line») _ (start .good .1 .0 .1 .1 .0 .1 .0 .1)) _ _ _ _ (not-false _ (at-if1 .if1 .left)) (at-queue-length .queue-length .ensures) (at-put-line .put-line .ensures)
 
 pub flush-queued-pad-line-spec : {M : Type 1} → statement M
 flush-queued-pad-line-spec =

@@ -1,3 +1,4 @@
+-- Puts a line from `at` on, without the blanks at its end, where it fits (`push_line`).
 use mathlib.Core.Path.{ap, _∙_}
 use Prim.Native.Nat.{ℕ, _-_}
 use mathlib.Core.List.{List}
@@ -28,12 +29,16 @@ line-measure-requires : tie.Need-line-measure-requires
 line-measure-requires c κs = search needs
 
 add-if2 : tie.Need-add-if2
-add-if2 c = omega (arith, trim-length (c .before .before .before .before .before .args .line .now), c .before .before .trimmed-length .ensures .0)
+add-if2 c =
+    let at-trimmed-length = c .before .before in
+    let a = at-trimmed-length .before .before .before .args in
+    omega (arith, trim-length (a .line .now), at-trimmed-length .trimmed-length .ensures .0)
 
 returns : tie.Need-returns
 returns c =
-    let a = c .before .before .before .before .before .before .args in
-    let n = c .before .before .before .trimmed-length in
+    let at-trimmed-length = c .before .before .before in
+    let a = at-trimmed-length .before .before .before .args in
+    let n = at-trimmed-length .trimmed-length in
     puts-over (trimEnd (a .line .now)) (a .at) (a .out .now) _ (omega (arith, n .ensures .0)) (omega arith)
 
 sub-if2 : tie.Need-sub-if2
@@ -41,8 +46,9 @@ sub-if2 c = search needs
 
 returns-2 : tie.Need-returns-2
 returns-2 c =
-    let a = c .before .before .before .before .before .before .before .args in
-    let n = c .before .before .before .before .trimmed-length in
+    let at-trimmed-length = c .before .before .before .before in
+    let a = at-trimmed-length .before .before .before .args in
+    let n = at-trimmed-length .trimmed-length in
     puts-over (trimEnd (a .line .now)) (a .at) (a .out .now) _ (omega (arith, n .ensures .0)) (omega (arith, n .ensures .0))
 
 sub-copy-line : tie.Need-sub-copy-line
@@ -56,8 +62,9 @@ part-copy-line-end c = search needs
 
 copy-line-requires : tie.Need-copy-line-requires
 copy-line-requires c κs =
-    let a = c .before .before .before .before .before .before .before .before .args in
-    let n = c .before .before .before .before .before .trimmed-length in
+    let at-trimmed-length = c .before .before .before .before .before in
+    let a = at-trimmed-length .before .before .before .args in
+    let n = at-trimmed-length .trimmed-length in
     (omega (arith, trim-length (a .line .now), n .ensures .0), omega (arith, part-room (a .out .now) (a .at)))
 
 same-length : tie.Need-same-length
@@ -65,10 +72,13 @@ same-length c = search needs
 
 returns-3 : tie.Need-returns-3
 returns-3 c =
-    let a = c .before .before .before .before .before .before .before .before .before .before .before .args in
-    let n = c .before .before .before .before .before .before .before .before .trimmed-length in
-    let w = c .before .before .copy-line in
-    let m = c .before .before .before .before .before .before .line-measure in
+    let at-copy-line = c .before .before in
+    let at-line-measure = at-copy-line .before .before .before .before in
+    let at-trimmed-length = at-line-measure .before .before in
+    let a = at-trimmed-length .before .before .before .args in
+    let n = at-trimmed-length .trimmed-length in
+    let w = at-copy-line .copy-line in
+    let m = at-line-measure .line-measure in
     puts-one (trimEnd (a .line .now)) (a .at) (a .out .now) _ (omega (arith, n .ensures .0)) (w .last .0) (w .ensures ∙ ap (λ (l : List ℕ). over l (take (length (a .out .now) - a .at) (drop (a .at) (a .out .now)))) (finished-bytes (a .line .now) (n .result) (n .ensures .1))) (finished-measure (a .line .now) (n .result) (n .ensures .1) _ (m .ensures))
 
 pub put-line-spec : {M : Type 1} → statement M

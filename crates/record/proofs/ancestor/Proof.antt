@@ -1,3 +1,4 @@
+-- The parent entry with this kind, at most 2, and this id.
 use mathlib.Core.Path.{refl}
 use borrow.Author.Tests.{ne-eqb}
 use Rattle.record.proofs.ancestor.Statement.{statement}

@@ -1,3 +1,4 @@
+-- The first entries, as many as there are parents.
 use borrow.Author.Needs.{needs}
 use Prim.Native.Nat.{ℕ, _≤_, _-_}
 use mathlib.Core.Path.{_≡_, ap, _∙_}
@@ -36,14 +37,15 @@ loop-less c = search needs
 
 loop-again : tie.Need-loop-again Inv-loop μ-loop
 loop-again c =
-    let l = c .before .before .before .loop in
-    let a = c .before .before .before .before .before .before .args in
+    let at-loop = c .before .before .before in
+    let a = at-loop .before .before .before .args in
+    let l = at-loop .loop in
     (search needs, search needs, search needs, entries-next (a .left .now) (l .i) (l .inv .3) (c .before .entry-at .ensures) (c .push .ensures) (omega arith))
 
 returns : tie.Need-returns Inv-loop μ-loop
 returns c =
-    let l = c .before .loop in
     let a = c .before .before .before .before .args in
+    let l = c .before .loop in
     let e : l .i ≡ a .parents = omega arith in
     l .inv .3 ∙ ap (λ (k : ℕ). entriesWith (map entryOf (writtenFrom (a .left .now) 0 k))) e
 

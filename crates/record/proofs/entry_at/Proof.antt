@@ -1,3 +1,4 @@
+-- The entry with this number.
 use mathlib.Core.Path.{refl}
 use borrow.Author.Needs.{needs}
 use Rattle.record.proofs.entry_at.Statement.{statement}

@@ -1,3 +1,4 @@
+-- Whether one of the first entries has a kind above the highest.
 use borrow.Author.Needs.{needs}
 use Prim.Native.Nat.{ℕ, _≤_, _-_}
 use mathlib.Core.Path.{_≡_, ap}

@@ -1,3 +1,4 @@
+-- The length of a message, which ends before the first zero byte.
 use borrow.Author.Needs.{needs}
 use Prim.Native.Nat.{_≤_, _-_}
 use mathlib.Core.Path.{_≡_, refl}

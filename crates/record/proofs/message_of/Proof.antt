@@ -1,3 +1,4 @@
+-- The first n bytes, and zeros behind them.
 use borrow.Author.Needs.{needs}
 use Prim.Native.Nat.{_≤_, _-_}
 use mathlib.Core.Path.{_≡_, refl, ap, _∙_}

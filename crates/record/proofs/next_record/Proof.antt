@@ -1,3 +1,4 @@
+-- The next record of the bytes that are left, unless a check refuses it or no bytes are left.
 use mathlib.Core.Path.{refl, sym, _∙_}
 use Rattle.record.proofs.RecordLaws.{ended-done, short-done, many-done, kind-done, ready-done}
 use borrow.Author.Needs.{needs}
@@ -14,7 +15,10 @@ no-record-requires-2 : tie.Need-no-record-requires-2
 no-record-requires-2 c κs = search needs
 
 returns-2 : tie.Need-returns-2
-returns-2 c = short-done (c .before .before .before .before .args .left .now) _ (c .before .before .if1 .left) (c .before .if2 .taken) (c .no-record2 .ensures)
+returns-2 c =
+    let at-if1 = c .before .before in
+    let a = at-if1 .before .before .args in
+    short-done (a .left .now) _ (at-if1 .if1 .left) (c .before .if2 .taken) (c .no-record2 .ensures)
 
 shared-slice-read-wide : tie.Need-shared-slice-read-wide
 shared-slice-read-wide c = search needs
@@ -29,7 +33,12 @@ no-record-requires-3 : tie.Need-no-record-requires-3
 no-record-requires-3 c κs = search needs
 
 returns-3 : tie.Need-returns-3
-returns-3 c = many-done (c .before .before .before .before .before .before .before .args .left .now) _ (c .before .before .before .before .before .if1 .left) (c .before .before .before .before .if2 .left) _ (c .before .before .wide .ensures .0) (c .before .if3 .taken) (c .no-record3 .ensures)
+returns-3 c =
+    let at-wide = c .before .before in
+    let at-if2 = at-wide .before .before in
+    let at-if1 = at-if2 .before in
+    let a = at-if1 .before .before .args in
+    many-done (a .left .now) _ (at-if1 .if1 .left) (at-if2 .if2 .left) _ (at-wide .wide .ensures .0) (c .before .if3 .taken) (c .no-record3 .ensures)
 
 has-other-kind-requires : tie.Need-has-other-kind-requires
 has-other-kind-requires c κs = search needs
@@ -38,13 +47,27 @@ no-record-requires-4 : tie.Need-no-record-requires-4
 no-record-requires-4 c κs = search needs
 
 returns-4 : tie.Need-returns-4
-returns-4 c = kind-done (c .before .before .before .before .before .before .before .before .before .args .left .now) _ (c .before .before .before .before .before .before .before .if1 .left) (c .before .before .before .before .before .before .if2 .left) _ (c .before .before .before .before .wide .ensures .0) (c .before .before .before .if3 .left) (sym (c .before .if4 .taken) ∙ c .before .before .has-other-kind .ensures) (c .no-record4 .ensures)
+returns-4 c =
+    let at-has-other-kind = c .before .before in
+    let at-if3 = at-has-other-kind .before in
+    let at-wide = at-if3 .before in
+    let at-if2 = at-wide .before .before in
+    let at-if1 = at-if2 .before in
+    let a = at-if1 .before .before .args in
+    kind-done (a .left .now) _ (at-if1 .if1 .left) (at-if2 .if2 .left) _ (at-wide .wide .ensures .0) (at-if3 .if3 .left) (sym (c .before .if4 .taken) ∙ at-has-other-kind .has-other-kind .ensures) (c .no-record4 .ensures)
 
 record-of-requires : tie.Need-record-of-requires
 record-of-requires c κs = search needs
 
 returns-5 : tie.Need-returns-5
-returns-5 c = ready-done (c .before .before .before .before .before .before .before .before .before .args .left .now) _ (c .before .before .before .before .before .before .before .if1 .left) (c .before .before .before .before .before .before .if2 .left) _ (c .before .before .before .before .wide .ensures .0) (c .before .before .before .if3 .left) (sym (c .before .if4 .left) ∙ c .before .before .has-other-kind .ensures) refl (c .record-of .ensures)
+returns-5 c =
+    let at-has-other-kind = c .before .before in
+    let at-if3 = at-has-other-kind .before in
+    let at-wide = at-if3 .before in
+    let at-if2 = at-wide .before .before in
+    let at-if1 = at-if2 .before in
+    let a = at-if1 .before .before .args in
+    ready-done (a .left .now) _ (at-if1 .if1 .left) (at-if2 .if2 .left) _ (at-wide .wide .ensures .0) (at-if3 .if3 .left) (sym (c .before .if4 .left) ∙ at-has-other-kind .has-other-kind .ensures) refl (c .record-of .ensures)
 
 pub next-record-spec : {M : Type 1} → statement M
 next-record-spec =

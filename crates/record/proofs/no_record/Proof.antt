@@ -1,3 +1,4 @@
+-- An answer without a record: id 0, mark 0, no entries and no message.
 use mathlib.Core.Path.{refl}
 use borrow.Author.Needs.{needs}
 use Rattle.record.proofs.no_record.Statement.{statement}

@@ -1,3 +1,4 @@
+-- The record at the beginning of the bytes.
 use native.Mathlib.Omega.{arith}
 use lib.ListN.{drop, length-take}
 use Rattle.record.specs.Record.{messageRoom, roomOf}
@@ -35,8 +36,12 @@ shared-slice-read-t12 c = search needs
 
 returns : tie.Need-returns
 returns c =
-    let a = c .before .before .before .before .before .before .before .args in
-    record-done (a .left .now) (a .parents) _ _ _ _ (c .before .before .before .before .before .before .before .pre .2) (c .before .before .before .before .message-length .ensures) (c .before .before .before .message-of .ensures) (c .before .before .entries-of .ensures) (c .before .id-at .ensures)
+    let at-entries-of = c .before .before in
+    let at-message-of = at-entries-of .before in
+    let at-message-length = at-message-of .before in
+    let start = at-message-length .before .before .before in
+    let a = start .args in
+    record-done (a .left .now) (a .parents) _ _ _ _ (start .pre .2) (at-message-length .message-length .ensures) (at-message-of .message-of .ensures) (at-entries-of .entries-of .ensures) (c .before .id-at .ensures)
 
 pub record-of-spec : {M : Type 1} → statement M
 record-of-spec =

@@ -1,3 +1,4 @@
+-- The connecting line of a link cell.
 use Rattle.glyphs.specs.Ascii.{connection}
 use borrow.Author.Needs.{needs}
 use Rattle.glyphs.proofs.ascii.link_connection.Statement.{statement}
@@ -24,23 +25,56 @@ returns c = rw (← c .before .intersects .ensures, c .if1 .taken)
 
 returns-2 : tie.Need-returns-2
 unfolding connection
-returns-2 c = rw (← c .before .before .before .before .before .before .intersects .ensures, c .before .before .before .before .before .if1 .left, ← c .before .before .before .before .intersects2 .ensures, c .before .before .before .if2 .taken, ← c .before .before .intersects3 .ensures, c .if3 .taken)
+returns-2 c =
+    let at-intersects3 = c .before .before in
+    let at-if2 = at-intersects3 .before in
+    let at-intersects2 = at-if2 .before in
+    let at-if1 = at-intersects2 .before in
+    let at-intersects = at-if1 .before in
+    rw (← at-intersects .intersects .ensures, at-if1 .if1 .left, ← at-intersects2 .intersects2 .ensures, at-if2 .if2 .taken, ← at-intersects3 .intersects3 .ensures, c .if3 .taken)
 
 returns-3 : tie.Need-returns-3
 unfolding connection
-returns-3 c = rw (← c .before .before .before .before .before .before .intersects .ensures, c .before .before .before .before .before .if1 .left, ← c .before .before .before .before .intersects2 .ensures, c .before .before .before .if2 .taken, ← c .before .before .intersects3 .ensures, c .if3 .left)
+returns-3 c =
+    let at-intersects3 = c .before .before in
+    let at-if2 = at-intersects3 .before in
+    let at-intersects2 = at-if2 .before in
+    let at-if1 = at-intersects2 .before in
+    let at-intersects = at-if1 .before in
+    rw (← at-intersects .intersects .ensures, at-if1 .if1 .left, ← at-intersects2 .intersects2 .ensures, at-if2 .if2 .taken, ← at-intersects3 .intersects3 .ensures, c .if3 .left)
 
 returns-4 : tie.Need-returns-4
 unfolding connection
-returns-4 c = rw (← c .before .before .before .before .before .before .before .before .intersects .ensures, c .before .before .before .before .before .before .before .if1 .left, ← c .before .before .before .before .before .before .intersects2 .ensures, c .before .before .before .before .before .if2 .left, ← c .before .before .before .before .intersects4 .ensures, c .before .before .before .if4 .taken, ← c .before .before .intersects5 .ensures, c .if5 .taken)
+returns-4 c =
+    let at-intersects5 = c .before .before in
+    let at-if4 = at-intersects5 .before in
+    let at-intersects4 = at-if4 .before in
+    let at-if2 = at-intersects4 .before in
+    let at-intersects2 = at-if2 .before in
+    let at-if1 = at-intersects2 .before in
+    let at-intersects = at-if1 .before in
+    rw (← at-intersects .intersects .ensures, at-if1 .if1 .left, ← at-intersects2 .intersects2 .ensures, at-if2 .if2 .left, ← at-intersects4 .intersects4 .ensures, at-if4 .if4 .taken, ← at-intersects5 .intersects5 .ensures, c .if5 .taken)
 
 returns-5 : tie.Need-returns-5
 unfolding connection
-returns-5 c = rw (← c .before .before .before .before .before .before .before .before .intersects .ensures, c .before .before .before .before .before .before .before .if1 .left, ← c .before .before .before .before .before .before .intersects2 .ensures, c .before .before .before .before .before .if2 .left, ← c .before .before .before .before .intersects4 .ensures, c .before .before .before .if4 .taken, ← c .before .before .intersects5 .ensures, c .if5 .left)
+returns-5 c =
+    let at-intersects5 = c .before .before in
+    let at-if4 = at-intersects5 .before in
+    let at-intersects4 = at-if4 .before in
+    let at-if2 = at-intersects4 .before in
+    let at-intersects2 = at-if2 .before in
+    let at-if1 = at-intersects2 .before in
+    let at-intersects = at-if1 .before in
+    rw (← at-intersects .intersects .ensures, at-if1 .if1 .left, ← at-intersects2 .intersects2 .ensures, at-if2 .if2 .left, ← at-intersects4 .intersects4 .ensures, at-if4 .if4 .taken, ← at-intersects5 .intersects5 .ensures, c .if5 .left)
 
 returns-6 : tie.Need-returns-6
 unfolding connection
-returns-6 c = rw (← c .before .before .before .before .before .intersects .ensures, c .before .before .before .before .if1 .left, ← c .before .before .before .intersects2 .ensures, c .before .before .if2 .left, ← c .before .intersects4 .ensures, c .if4 .left)
+returns-6 c =
+    let at-if2 = c .before .before in
+    let at-intersects2 = at-if2 .before in
+    let at-if1 = at-intersects2 .before in
+    let at-intersects = at-if1 .before in
+    rw (← at-intersects .intersects .ensures, at-if1 .if1 .left, ← at-intersects2 .intersects2 .ensures, at-if2 .if2 .left, ← c .before .intersects4 .ensures, c .if4 .left)
 
 pub link-connection-spec : {M : Type 1} → statement M
 link-connection-spec =

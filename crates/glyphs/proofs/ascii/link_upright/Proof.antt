@@ -1,3 +1,4 @@
+-- The parent or ancestor line of a link cell.
 use Rattle.glyphs.specs.Ascii.{upright}
 use borrow.Author.Needs.{needs}
 use Rattle.glyphs.proofs.ascii.link_upright.Statement.{statement}
@@ -31,19 +32,45 @@ returns-2 c = rw (← c .before .before .before .intersects .ensures, c .before 
 
 returns-3 : tie.Need-returns-3
 unfolding upright
-returns-3 c = rw (← c .before .before .before .before .intersects .ensures, c .before .before .before .if1 .left, ← c .before .before .intersects3 .ensures, c .before .if3 .taken) (c .standing-upright .ensures)
+returns-3 c =
+    let at-intersects3 = c .before .before in
+    let at-if1 = at-intersects3 .before in
+    let at-intersects = at-if1 .before in
+    rw (← at-intersects .intersects .ensures, at-if1 .if1 .left, ← at-intersects3 .intersects3 .ensures, c .before .if3 .taken) (c .standing-upright .ensures)
 
 returns-4 : tie.Need-returns-4
 unfolding upright
-returns-4 c = rw (← c .before .before .before .before .before .before .intersects .ensures, c .before .before .before .before .before .if1 .left, ← c .before .before .before .before .intersects3 .ensures, c .before .before .before .if3 .left, ← c .before .before .intersects4 .ensures, c .if4 .taken)
+returns-4 c =
+    let at-intersects4 = c .before .before in
+    let at-if3 = at-intersects4 .before in
+    let at-intersects3 = at-if3 .before in
+    let at-if1 = at-intersects3 .before in
+    let at-intersects = at-if1 .before in
+    rw (← at-intersects .intersects .ensures, at-if1 .if1 .left, ← at-intersects3 .intersects3 .ensures, at-if3 .if3 .left, ← at-intersects4 .intersects4 .ensures, c .if4 .taken)
 
 returns-5 : tie.Need-returns-5
 unfolding upright
-returns-5 c = rw (← c .before .before .before .before .before .before .before .before .before .intersects .ensures, c .before .before .before .before .before .before .before .before .if1 .left, ← c .before .before .before .before .before .before .before .intersects3 .ensures, c .before .before .before .before .before .before .if3 .left, ← c .before .before .before .before .before .intersects4 .ensures, c .before .before .before .if4 .left, ← c .before .before .intersects5 .ensures, c .if5 .taken)
+returns-5 c =
+    let at-intersects5 = c .before .before in
+    let at-if4 = at-intersects5 .before in
+    let at-intersects4 = at-if4 .before .before in
+    let at-if3 = at-intersects4 .before in
+    let at-intersects3 = at-if3 .before in
+    let at-if1 = at-intersects3 .before in
+    let at-intersects = at-if1 .before in
+    rw (← at-intersects .intersects .ensures, at-if1 .if1 .left, ← at-intersects3 .intersects3 .ensures, at-if3 .if3 .left, ← at-intersects4 .intersects4 .ensures, at-if4 .if4 .left, ← at-intersects5 .intersects5 .ensures, c .if5 .taken)
 
 returns-6 : tie.Need-returns-6
 unfolding upright
-returns-6 c = rw (← c .before .before .before .before .before .before .before .before .before .intersects .ensures, c .before .before .before .before .before .before .before .before .if1 .left, ← c .before .before .before .before .before .before .before .intersects3 .ensures, c .before .before .before .before .before .before .if3 .left, ← c .before .before .before .before .before .intersects4 .ensures, c .before .before .before .if4 .left, ← c .before .before .intersects5 .ensures, c .if5 .left)
+returns-6 c =
+    let at-intersects5 = c .before .before in
+    let at-if4 = at-intersects5 .before in
+    let at-intersects4 = at-if4 .before .before in
+    let at-if3 = at-intersects4 .before in
+    let at-intersects3 = at-if3 .before in
+    let at-if1 = at-intersects3 .before in
+    let at-intersects = at-if1 .before in
+    rw (← at-intersects .intersects .ensures, at-if1 .if1 .left, ← at-intersects3 .intersects3 .ensures, at-if3 .if3 .left, ← at-intersects4 .intersects4 .ensures, at-if4 .if4 .left, ← at-intersects5 .intersects5 .ensures, c .if5 .left)
 
 pub link-upright-spec : {M : Type 1} → statement M
 link-upright-spec =

@@ -1,3 +1,4 @@
+-- What the upper link line's center shows without an upright.
 use Rattle.glyphs.specs.AsciiLarge.{lying}
 use borrow.Author.Needs.{needs}
 use Rattle.glyphs.proofs.ascii_large.below_center.Statement.{statement}

@@ -1,3 +1,4 @@
+-- A cell of the lower link line.
 use borrow.Author.Needs.{needs}
 use Rattle.glyphs.proofs.ascii_large.bottom.Statement.{statement}
 use Rattle.glyphs.proofs.ascii_large.bottom.Tie as tie

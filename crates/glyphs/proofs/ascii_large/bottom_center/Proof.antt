@@ -1,3 +1,4 @@
+-- The center of the lower link line.
 use Rattle.glyphs.specs.AsciiLarge.{bottomCenter}
 use borrow.Author.Needs.{needs}
 use Rattle.glyphs.proofs.ascii_large.bottom_center.Statement.{statement}

@@ -1,3 +1,4 @@
+-- The left character of the lower link line.
 use Rattle.glyphs.specs.AsciiLarge.{bottomLeft}
 use borrow.Author.Needs.{needs}
 use Rattle.glyphs.proofs.ascii_large.bottom_left.Statement.{statement}

@@ -1,3 +1,4 @@
+-- The right character of the lower link line.
 use Rattle.glyphs.specs.AsciiLarge.{bottomRight}
 use borrow.Author.Needs.{needs}
 use Rattle.glyphs.proofs.ascii_large.bottom_right.Statement.{statement}

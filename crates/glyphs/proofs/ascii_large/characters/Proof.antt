@@ -1,3 +1,4 @@
+-- Three characters, without the first in cell 0.
 use borrow.Author.Tests.{lt-ltb, le-ltb}
 use Rattle.glyphs.proofs.ascii_large.characters.Statement.{statement}
 use Rattle.glyphs.proofs.ascii_large.characters.Tie as tie

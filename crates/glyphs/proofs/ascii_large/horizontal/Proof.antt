@@ -1,3 +1,4 @@
+-- The horizontal stroke of the upper link line.
 use Rattle.glyphs.specs.AsciiLarge.{level}
 use borrow.Author.Needs.{needs}
 use Rattle.glyphs.proofs.ascii_large.horizontal.Statement.{statement}

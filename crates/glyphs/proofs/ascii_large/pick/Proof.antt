@@ -1,3 +1,4 @@
+-- One character where the cell has the parent's mark, one where it has the ancestor's, else another.
 use borrow.Author.Needs.{needs}
 use Rattle.glyphs.proofs.ascii_large.pick.Statement.{statement}
 use Rattle.glyphs.proofs.ascii_large.pick.Tie as tie

@@ -1,3 +1,4 @@
+-- A character and a blank, with a blank before them in each cell but the first.
 use borrow.Author.Tests.{lt-ltb, le-ltb}
 use borrow.Author.Needs.{needs}
 use Rattle.glyphs.proofs.ascii_large.spaced.Statement.{statement}

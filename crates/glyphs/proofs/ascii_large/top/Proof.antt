@@ -1,3 +1,4 @@
+-- A cell of the upper link line.
 use borrow.Author.Needs.{needs}
 use Rattle.glyphs.proofs.ascii_large.top.Statement.{statement}
 use Rattle.glyphs.proofs.ascii_large.top.Tie as tie

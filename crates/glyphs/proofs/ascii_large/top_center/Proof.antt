@@ -1,3 +1,4 @@
+-- The center of the upper link line.
 use Rattle.glyphs.specs.AsciiLarge.{topCenter}
 use borrow.Author.Needs.{needs}
 use Rattle.glyphs.proofs.ascii_large.top_center.Statement.{statement}

@@ -1,3 +1,4 @@
+-- The left character of the upper link line.
 use Rattle.glyphs.specs.AsciiLarge.{topLeft}
 use borrow.Author.Needs.{needs}
 use Rattle.glyphs.proofs.ascii_large.top_left.Statement.{statement}

@@ -1,3 +1,4 @@
+-- The right character of the upper link line.
 use Rattle.glyphs.specs.AsciiLarge.{topRight}
 use borrow.Author.Needs.{needs}
 use Rattle.glyphs.proofs.ascii_large.top_right.Statement.{statement}

@@ -1,3 +1,4 @@
+-- A glyph of a table; none past the last.
 use Rattle.glyphs.proofs.TableLaws.{no-entry, entry-held}
 use borrow.Author.Needs.{needs}
 use Rattle.glyphs.proofs.box_drawing.glyph_at.Statement.{statement}
@@ -67,7 +68,9 @@ at-most-eight-requires : tie.Need-at-most-eight-requires
 at-most-eight-requires c κs = search needs
 
 returns-2 : tie.Need-returns-2
-returns-2 c = let a = c .before .before .before .before .before .before .before .before .before .before .before .args in entry-held (a .table .now) (a .n) _ (search needs) (c .at-most-eight .ensures)
+returns-2 c =
+    let a = c .before .before .before .before .before .before .before .before .before .before .before .args in
+    entry-held (a .table .now) (a .n) _ (search needs) (c .at-most-eight .ensures)
 
 pub glyph-at-spec : {M : Type 1} → statement M
 glyph-at-spec =

@@ -1,3 +1,4 @@
+-- The number of the glyph that a choice is drawn by, past the last where there is none.
 use borrow.Author.Needs.{needs}
 use Rattle.glyphs.proofs.box_drawing.glyph_number.Statement.{statement}
 use Rattle.glyphs.proofs.box_drawing.glyph_number.Tie as tie

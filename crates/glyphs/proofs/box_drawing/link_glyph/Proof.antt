@@ -1,3 +1,4 @@
+-- The glyph's number of a link cell, ANCESTOR for a dashed upright of either style.
 use Rattle.glyphs.specs.BoxDrawing.{boxLink}
 use borrow.Author.Needs.{needs}
 use Rattle.glyphs.proofs.box_drawing.link_glyph.Statement.{statement}
@@ -48,15 +49,38 @@ returns c = rw (← c .before .before .intersects .ensures, c .before .if1 .take
 
 returns-2 : tie.Need-returns-2
 unfolding boxLink
-returns-2 c = rw (← c .before .before .before .before .before .before .intersects .ensures, c .before .before .before .before .before .if1 .left, ← c .before .before .before .before .intersects2 .ensures, c .before .before .before .if2 .taken, ← c .before .before .intersects3 .ensures, ← c .before .intersects4 .ensures) (c .vertical-link .ensures)
+returns-2 c =
+    let at-intersects3 = c .before .before in
+    let at-if2 = at-intersects3 .before in
+    let at-intersects2 = at-if2 .before in
+    let at-if1 = at-intersects2 .before in
+    let at-intersects = at-if1 .before in
+    rw (← at-intersects .intersects .ensures, at-if1 .if1 .left, ← at-intersects2 .intersects2 .ensures, at-if2 .if2 .taken, ← at-intersects3 .intersects3 .ensures, ← c .before .intersects4 .ensures) (c .vertical-link .ensures)
 
 returns-3 : tie.Need-returns-3
 unfolding boxLink
-returns-3 c = rw (← c .before .before .before .before .before .before .before .before .before .before .intersects .ensures, c .before .before .before .before .before .before .before .before .before .if1 .left, ← c .before .before .before .before .before .before .before .before .intersects2 .ensures, c .before .before .before .before .before .before .before .if2 .left, ← c .before .before .before .before .before .before .intersects5 .ensures, ← c .before .before .before .before .before .intersects6 .ensures, c .before .before .before .before .if3 .taken, ← c .before .before .before .intersects7 .ensures, ← c .before .before .intersects8 .ensures, ← c .before .plain-upright .ensures) (c .vertical-link2 .ensures)
+returns-3 c =
+    let at-intersects8 = c .before .before in
+    let at-intersects7 = at-intersects8 .before in
+    let at-if3 = at-intersects7 .before in
+    let at-intersects6 = at-if3 .before in
+    let at-intersects5 = at-intersects6 .before in
+    let at-if2 = at-intersects5 .before in
+    let at-intersects2 = at-if2 .before in
+    let at-if1 = at-intersects2 .before in
+    let at-intersects = at-if1 .before in
+    rw (← at-intersects .intersects .ensures, at-if1 .if1 .left, ← at-intersects2 .intersects2 .ensures, at-if2 .if2 .left, ← at-intersects5 .intersects5 .ensures, ← at-intersects6 .intersects6 .ensures, at-if3 .if3 .taken, ← at-intersects7 .intersects7 .ensures, ← at-intersects8 .intersects8 .ensures, ← c .before .plain-upright .ensures) (c .vertical-link2 .ensures)
 
 returns-4 : tie.Need-returns-4
 unfolding boxLink
-returns-4 c = rw (← c .before .before .before .before .before .before .before .intersects .ensures, c .before .before .before .before .before .before .if1 .left, ← c .before .before .before .before .before .intersects2 .ensures, c .before .before .before .before .if2 .left, ← c .before .before .before .intersects5 .ensures, ← c .before .before .intersects6 .ensures, c .before .if3 .left) (c .other-link .ensures)
+returns-4 c =
+    let at-intersects6 = c .before .before in
+    let at-intersects5 = at-intersects6 .before in
+    let at-if2 = at-intersects5 .before in
+    let at-intersects2 = at-if2 .before in
+    let at-if1 = at-intersects2 .before in
+    let at-intersects = at-if1 .before in
+    rw (← at-intersects .intersects .ensures, at-if1 .if1 .left, ← at-intersects2 .intersects2 .ensures, at-if2 .if2 .left, ← at-intersects5 .intersects5 .ensures, ← at-intersects6 .intersects6 .ensures, c .before .if3 .left) (c .other-link .ensures)
 
 pub link-glyph-spec : {M : Type 1} → statement M
 link-glyph-spec =

@@ -1,3 +1,4 @@
+-- The row's own dashed upright in place of ANCESTOR.
 use borrow.Author.Tests.{eq-eqb, ne-eqb}
 use borrow.Author.Needs.{needs}
 use Rattle.glyphs.proofs.box_drawing.own_dash.Statement.{statement}

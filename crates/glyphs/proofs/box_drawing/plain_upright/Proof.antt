@@ -1,3 +1,4 @@
+-- The plain upright of a link cell.
 use Rattle.glyphs.specs.BoxDrawing.{plain}
 use borrow.Author.Needs.{needs}
 use Rattle.glyphs.proofs.box_drawing.plain_upright.Statement.{statement}

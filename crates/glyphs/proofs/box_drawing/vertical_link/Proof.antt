@@ -1,3 +1,4 @@
+-- An upright, with strokes to the left and to the right or else plain.
 use Rattle.glyphs.specs.BoxDrawing.{between}
 use Rattle.glyphs.proofs.box_drawing.vertical_link.Statement.{statement}
 use Rattle.glyphs.proofs.box_drawing.vertical_link.Tie as tie

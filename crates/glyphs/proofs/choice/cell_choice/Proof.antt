@@ -1,3 +1,4 @@
+-- What a cell is given in a line.
 use mathlib.Core.Path.{refl}
 use Rattle.glyphs.specs.declared.types.Line.the-variants.{PreNode, Node, PostNode, Term, SecondTerm, Ancestry, PostAncestry}
 use Rattle.glyphs.proofs.Alike.{alike}
@@ -69,13 +70,21 @@ pad-choice-requires-4 : tie.Need-pad-choice-requires-4
 pad-choice-requires-4 c κs = search needs
 
 returns : tie.Need-returns
-returns c = rw (c .before .before .enum-told .given .1, ← alike (c .before .before .before .before .before .args .row) (c .before .before .before .before .before .args .place) (c .before .before .before .before .before .args .renderer) PreNode refl, ← c .before .to-pad-line .ensures) (c .pad-choice .ensures)
+returns c =
+    let matched = c .before .before in
+    let a = matched .before .before .before .args in
+    rw (matched .enum-told .given .1, ← alike (a .row) (a .place) (a .renderer) PreNode refl, ← c .before .to-pad-line .ensures) (c .pad-choice .ensures)
 
 returns-2 : tie.Need-returns-2
-returns-2 c = rw (c .before .enum-told2 .given .1, ← alike (c .before .before .before .before .args .row) (c .before .before .before .before .args .place) (c .before .before .before .before .args .renderer) Node refl) (c .node-choice .ensures)
+returns-2 c =
+    let a = c .before .before .before .before .args in
+    rw (c .before .enum-told2 .given .1, ← alike (a .row) (a .place) (a .renderer) Node refl) (c .node-choice .ensures)
 
 returns-3 : tie.Need-returns-3
-returns-3 c = rw (c .before .before .enum-told3 .given .1, ← alike (c .before .before .before .before .before .args .row) (c .before .before .before .before .before .args .place) (c .before .before .before .before .before .args .renderer) PostNode refl, ← c .before .to-pad-line2 .ensures) (c .pad-choice2 .ensures)
+returns-3 c =
+    let matched = c .before .before in
+    let a = matched .before .before .before .args in
+    rw (matched .enum-told3 .given .1, ← alike (a .row) (a .place) (a .renderer) PostNode refl, ← c .before .to-pad-line2 .ensures) (c .pad-choice2 .ensures)
 
 returns-4 : tie.Need-returns-4
 returns-4 c = rw (c .before .enum-told4 .given .1) (c .link-choice .ensures)
@@ -84,16 +93,25 @@ returns-5 : tie.Need-returns-5
 returns-5 c = rw (c .before .enum-told5 .given .1) (c .second-link-choice .ensures)
 
 returns-6 : tie.Need-returns-6
-returns-6 c = rw (c .before .enum-told6 .given .1, ← alike (c .before .before .before .before .args .row) (c .before .before .before .before .args .place) (c .before .before .before .before .args .renderer) Term refl) (c .term-choice .ensures)
+returns-6 c =
+    let a = c .before .before .before .before .args in
+    rw (c .before .enum-told6 .given .1, ← alike (a .row) (a .place) (a .renderer) Term refl) (c .term-choice .ensures)
 
 returns-7 : tie.Need-returns-7
-returns-7 c = rw (c .before .enum-told7 .given .1, ← alike (c .before .before .before .before .args .row) (c .before .before .before .before .args .place) (c .before .before .before .before .args .renderer) SecondTerm refl) (c .term-choice2 .ensures)
+returns-7 c =
+    let a = c .before .before .before .before .args in
+    rw (c .before .enum-told7 .given .1, ← alike (a .row) (a .place) (a .renderer) SecondTerm refl) (c .term-choice2 .ensures)
 
 returns-8 : tie.Need-returns-8
-returns-8 c = rw (c .before .enum-told8 .given .1, ← alike (c .before .before .before .before .args .row) (c .before .before .before .before .args .place) (c .before .before .before .before .args .renderer) Ancestry refl) (c .pad-choice3 .ensures)
+returns-8 c =
+    let a = c .before .before .before .before .args in
+    rw (c .before .enum-told8 .given .1, ← alike (a .row) (a .place) (a .renderer) Ancestry refl) (c .pad-choice3 .ensures)
 
 returns-9 : tie.Need-returns-9
-returns-9 c = rw (c .before .before .enum-told9 .given .1, ← alike (c .before .before .before .before .before .args .row) (c .before .before .before .before .before .args .place) (c .before .before .before .before .before .args .renderer) PostAncestry refl, ← c .before .to-foot-line .ensures) (c .pad-choice4 .ensures)
+returns-9 c =
+    let matched = c .before .before in
+    let a = matched .before .before .before .args in
+    rw (matched .enum-told9 .given .1, ← alike (a .row) (a .place) (a .renderer) PostAncestry refl, ← c .before .to-foot-line .ensures) (c .pad-choice4 .ensures)
 
 pub cell-choice-spec : {M : Type 1} → statement M
 cell-choice-spec =

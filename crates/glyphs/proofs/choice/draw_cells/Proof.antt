@@ -1,3 +1,4 @@
+-- Draws the cells of a line where there is room for any line, and gives the count of their bytes.
 use Rattle.glyphs.proofs.choice.draw_cells.Statement.{statement}
 use Rattle.glyphs.proofs.choice.draw_cells.Tie as tie
 use Prim.Native.Nat.{_≤_, _*_, _-_}
@@ -56,11 +57,14 @@ part-place-cell-end : tie.Need-part-place-cell-end Inv-loop μ-loop
 part-place-cell-end c = search needs
 
 place-cell-requires : tie.Need-place-cell-requires Inv-loop μ-loop
-place-cell-requires c κs = let l = c .before .before .before .before .before .before .loop in rw (part-room (l .drawn) (l .at)) (omega arith)
+place-cell-requires c κs =
+    let l = c .before .before .before .before .before .before .loop in rw (part-room (l .drawn) (l .at)) (omega arith)
 
 add-at : tie.Need-add-at Inv-loop μ-loop
-add-at c = let a = c .before .before .before .before .before .before .before .before .before .before .before .before .before .args in
-    let h : c .before .before .place-cell .result ≤ 8 = rw (c .before .before .place-cell .ensures .count) (cell-short (entry (a .table .now)) (entry-short (a .table .now)) (a .renderer) (a .row) (a .mark) (a .line) _) in
+add-at c =
+    let at-place-cell = c .before .before in
+    let a = at-place-cell .before .before .before .before .before .before .before .before .before .before .before .args in
+    let h : at-place-cell .place-cell .result ≤ 8 = rw (at-place-cell .place-cell .ensures .count) (cell-short (entry (a .table .now)) (entry-short (a .table .now)) (a .renderer) (a .row) (a .mark) (a .line) _) in
     omega (arith, h)
 
 add-i : tie.Need-add-i Inv-loop μ-loop
@@ -70,19 +74,28 @@ loop-less : tie.Need-loop-less Inv-loop μ-loop
 loop-less c = search needs
 
 loop-again : tie.Need-loop-again Inv-loop μ-loop
-loop-again c = let a = c .before .before .before .before .before .before .before .before .before .before .before .before .before .args in
-    let l = c .before .before .before .before .before .before .before .before .before .loop in
-    let w = c .before .before .place-cell in
-    let n = draw-next (entry (a .table .now)) (a .renderer) (a .row) (a .mark) (a .line) (a .t7) (c .before .before .before .before .before .before .before .before .before .before .cell-count .result) (l .i) (l .inv .2) (l .inv .1) (entry-short (a .table .now)) (c .before .before .before .before .before .before .before .before .loop-test .taken) (c .before .before .before .before .before .before .next-index .ensures) (c .before .before .before .before .next-link .ensures) (l .drawn) (w .last .0) _ (l .at) (w .result) (l .inv .6) (omega arith) (w .ensures) in
+loop-again c =
+    let at-place-cell = c .before .before in
+    let at-next-link = at-place-cell .before .before in
+    let at-next-index = at-next-link .before .before in
+    let at-loop-test = at-next-index .before .before in
+    let at-loop = at-loop-test .before in
+    let at-cell-count = at-loop .before in
+    let a = at-cell-count .before .before .before .args in
+    let l = at-loop .loop in
+    let w = at-place-cell .place-cell in
+    let n = draw-next (entry (a .table .now)) (a .renderer) (a .row) (a .mark) (a .line) (a .t7) (at-cell-count .cell-count .result) (l .i) (l .inv .2) (l .inv .1) (entry-short (a .table .now)) (at-loop-test .loop-test .taken) (at-next-index .next-index .ensures) (at-next-link .next-link .ensures) (l .drawn) (w .last .0) _ (l .at) (w .result) (l .inv .6) (omega arith) (w .ensures) in
     (omega arith, l .inv .1, l .inv .2, l .inv .3, part-length (l .drawn) (w .last .0) (l .at) (w .kept .0) (omega arith) ∙ l .inv .4, omega (arith, n .0), n .1)
 
 same-length : tie.Need-same-length Inv-loop μ-loop
 same-length c = search needs
 
 returns-2 : tie.Need-returns-2 Inv-loop μ-loop
-returns-2 c = let a = c .before .before .before .before .before .args in
+returns-2 c =
+    let at-cell-count = c .before .before in
+    let a = at-cell-count .before .before .before .args in
     let l = c .before .loop in
-    let n = c .before .before .cell-count in
+    let n = at-cell-count .cell-count in
     let d = rw (n .ensures .1) at (draw-all (entry (a .table .now)) (a .renderer) (a .row) (a .mark) (a .line) (a .t7) (n .result) (l .i) (l .inv .2) (l .inv .1) (c .loop-test .left) (l .at) (l .drawn) (l .inv .6)) in
     record { count = λ h. d .0; bytes = λ h. d .1 }
 

@@ -1,3 +1,4 @@
+-- A link line's choice.
 use Rattle.glyphs.specs.declared.types.Line.the-variants.{Link}
 use Rattle.glyphs.specs.Cells.{choiceOf}
 use Rattle.glyphs.proofs.BoxLaws.{box-choice}
@@ -32,7 +33,9 @@ unfolding choiceOf
 returns-2 c = rw (c .before .enum-told2 .given .1) (c .top .ensures)
 
 returns-3 : tie.Need-returns-3
-returns-3 c = rw (box-choice (c .before .before .before .before .before .args .renderer) (c .before .before .before .before .before .args .row) Link (c .before .before .before .before .before .args .place) (c .before .match .keys3), ← c .link-glyph .ensures)
+returns-3 c =
+    let a = c .before .before .before .before .before .args in
+    rw (box-choice (a .renderer) (a .row) Link (a .place) (c .before .match .keys3), ← c .link-glyph .ensures)
 
 pub link-choice-spec : {M : Type 1} → statement M
 link-choice-spec =

@@ -1,3 +1,4 @@
+-- The next cell's link, empty past the end.
 use borrow.Author.Tests.{lt-ltb, le-ltb}
 use borrow.Author.Needs.{needs}
 use Prim.Native.Nat.{_+_, _≤_}

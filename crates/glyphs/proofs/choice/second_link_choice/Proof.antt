@@ -1,3 +1,4 @@
+-- A second link line's choice, in large ASCII alone.
 use Rattle.glyphs.specs.Cells.{choiceOf}
 use borrow.Author.Needs.{needs}
 use Rattle.glyphs.proofs.choice.second_link_choice.Statement.{statement}

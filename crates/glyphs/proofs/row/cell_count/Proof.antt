@@ -1,3 +1,4 @@
+-- How many cells a shape of this width has: no more than there is room for.
 use borrow.Author.Needs.{needs}
 use mathlib.Core.Path.{_≡_, refl}
 use native.Mathlib.Omega.{arith}

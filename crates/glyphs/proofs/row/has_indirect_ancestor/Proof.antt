@@ -1,3 +1,4 @@
+-- Whether the ancestry line contains an indirect ancestor edge.
 use borrow.Author.Needs.{needs}
 use Prim.Native.Nat.{_≤_, _-_}
 use mathlib.Core.Path.{_≡_}
@@ -30,8 +31,10 @@ is-ancestor-requires : tie.Need-is-ancestor-requires Inv-loop μ-loop
 is-ancestor-requires c κs = search needs
 
 returns : tie.Need-returns Inv-loop μ-loop
-returns c = let a = c .before .before .before .before .before .args in
-    let l = c .before .before .before .before .loop in
+returns c =
+    let at-loop = c .before .before .before .before in
+    let a = at-loop .before .args in
+    let l = at-loop .loop in
     any-hit isIndirect (a .t1) (a .width) (l .i) (l .inv .2) (l .inv .1) blankCell (omega arith) (l .inv .3) (c .before .is-ancestor .ensures) (c .if1 .taken)
 
 add-i : tie.Need-add-i Inv-loop μ-loop
@@ -41,8 +44,10 @@ loop-less : tie.Need-loop-less Inv-loop μ-loop
 loop-less c = search needs
 
 loop-again : tie.Need-loop-again Inv-loop μ-loop
-loop-again c = let a = c .before .before .before .before .before .args in
-    let l = c .before .before .before .before .loop in
+loop-again c =
+    let at-loop = c .before .before .before .before in
+    let a = at-loop .before .args in
+    let l = at-loop .loop in
     (omega arith, l .inv .1, l .inv .2, any-next isIndirect (a .t1) (a .width) (l .i) (l .inv .2) (l .inv .1) blankCell (omega arith) (l .inv .3) (c .before .is-ancestor .ensures) (c .if1 .left))
 
 returns-2 : tie.Need-returns-2 Inv-loop μ-loop

@@ -1,3 +1,4 @@
+-- Whether the row has the line.
 use borrow.Author.Needs.{needs}
 use Rattle.glyphs.proofs.row.is_present.Statement.{statement}
 use Rattle.glyphs.proofs.row.is_present.Tie as tie

@@ -1,3 +1,4 @@
+-- The facts of a shape that its lines depend on.
 use borrow.Author.Needs.{needs}
 use Rattle.glyphs.proofs.row.row_of.Statement.{statement}
 use Rattle.glyphs.proofs.row.row_of.Tie as tie

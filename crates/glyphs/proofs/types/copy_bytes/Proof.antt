@@ -1,3 +1,4 @@
+-- Writes bytes at the start of an output that has room for them.
 use mathlib.Core.Path.{_≡_, refl}
 use Prim.Native.Nat.{_≤_, _-_}
 use native.Mathlib.Omega.{arith}
@@ -33,8 +34,9 @@ loop-less c = search needs
 
 loop-again : tie.Need-loop-again Inv-loop μ-loop
 loop-again c =
-    let l = c .before .before .loop in
-    let a = c .before .before .before .before .args in
+    let at-loop = c .before .before in
+    let a = at-loop .before .before .args in
+    let l = at-loop .loop in
     (search needs, search needs, search needs, so-far-step (a .bytes .now) (a .out .now) (l .i) (l .inv .3) refl (omega arith) (omega arith))
 
 same-length : tie.Need-same-length Inv-loop μ-loop

@@ -1,3 +1,4 @@
+-- Writes a glyph's eight places at the start of the unwritten part of a line, and gives the count of its bytes.
 use Rattle.glyphs.proofs.types.place_glyph.Statement.{statement}
 use Rattle.glyphs.proofs.types.place_glyph.Tie as tie
 use Prim.Native.Nat.{_≤_, _-_}

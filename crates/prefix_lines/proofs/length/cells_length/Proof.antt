@@ -1,3 +1,4 @@
+-- The length of a line's cells.
 use borrow.Author.Needs.{needs}
 use Rattle.prefix_lines.proofs.length.cells_length.Statement.{statement}
 use Rattle.prefix_lines.proofs.length.cells_length.Tie as tie

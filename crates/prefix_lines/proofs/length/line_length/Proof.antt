@@ -1,3 +1,4 @@
+-- The length of a line in its frame; 0 where the row has none.
 use mathlib.Core.Path.{sym, _∙_}
 use native.Mathlib.Omega.{arith}
 use lib.ListN.{take, length-take}
@@ -19,10 +20,16 @@ frame-length-requires : tie.Need-frame-length-requires
 frame-length-requires c κs = search needs
 
 add-result : tie.Need-add-result
-add-result c = let a = c .before .before .before .before .args in omega (arith, c .before .cells-length .ensures, c .frame-length .ensures, frame-small (a .frame), cells-short (entry (a .table .now)) (entry-short (a .table .now)) (a .renderer) (a .row) (a .mark) (a .line) (take (a .width) (a .cells)), length-take (a .width) (a .cells))
+add-result c =
+    let a = c .before .before .before .before .args in
+    omega (arith, c .before .cells-length .ensures, c .frame-length .ensures, frame-small (a .frame), cells-short (entry (a .table .now)) (entry-short (a .table .now)) (a .renderer) (a .row) (a .mark) (a .line) (take (a .width) (a .cells)), length-take (a .width) (a .cells))
 
 returns : tie.Need-returns
-returns c = let a = c .before .before .before .before .args in rw (present-length (a .frame) (entry (a .table .now)) (a .renderer) (a .row) (a .mark) (a .line) (take (a .width) (a .cells)) (sym (c .before .before .before .is-present .ensures) ∙ c .before .before .if1 .taken), ← c .before .cells-length .ensures, ← c .frame-length .ensures)
+returns c =
+    let at-if1 = c .before .before in
+    let at-is-present = at-if1 .before in
+    let a = at-is-present .before .args in
+    rw (present-length (a .frame) (entry (a .table .now)) (a .renderer) (a .row) (a .mark) (a .line) (take (a .width) (a .cells)) (sym (at-is-present .is-present .ensures) ∙ at-if1 .if1 .taken), ← c .before .cells-length .ensures, ← c .frame-length .ensures)
 
 returns-2 : tie.Need-returns-2
 returns-2 c = let a = c .before .before .args in rw (absent (a .frame) (entry (a .table .now)) (a .renderer) (a .row) (a .mark) (a .line) (take (a .width) (a .cells)) (sym (c .before .is-present .ensures) ∙ c .if1 .left))

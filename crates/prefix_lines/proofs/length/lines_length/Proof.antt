@@ -1,3 +1,4 @@
+-- The length of a row's lines.
 use borrow.Author.Needs.{needs}
 use Prim.Native.Nat.{_≤_, _-_}
 use mathlib.Core.Path.{_≡_}
@@ -32,8 +33,10 @@ line-length-requires : tie.Need-line-length-requires Inv-loop μ-loop
 line-length-requires c κs = search needs
 
 add-count : tie.Need-add-count Inv-loop μ-loop
-add-count c = let a = c .before .before .before .before .args in
-    let l = c .before .before .before .loop in
+add-count c =
+    let at-loop = c .before .before .before in
+    let a = at-loop .before .args in
+    let l = at-loop .loop in
     omega (arith, so-short (lineText (a .frame) (entry (a .table .now)) (a .renderer) (a .row) (a .mark) (take (a .width) (a .cells))) allLines (l .k) 516 (line-short (a .frame) (entry (a .table .now)) (a .renderer) (a .row) (a .mark) (entry-short (a .table .now)) (a .cells) (a .width) (l .inv .1)), c .line-length .ensures, line-short (a .frame) (entry (a .table .now)) (a .renderer) (a .row) (a .mark) (entry-short (a .table .now)) (a .cells) (a .width) (l .inv .1) (c .before .line-at .result))
 
 add-k : tie.Need-add-k Inv-loop μ-loop
@@ -43,8 +46,10 @@ loop-less : tie.Need-loop-less Inv-loop μ-loop
 loop-less c = search needs
 
 loop-again : tie.Need-loop-again Inv-loop μ-loop
-loop-again c = let a = c .before .before .before .before .args in
-    let l = c .before .before .before .loop in
+loop-again c =
+    let at-loop = c .before .before .before in
+    let a = at-loop .before .args in
+    let l = at-loop .loop in
     (omega arith, l .inv .1, next-length (lineText (a .frame) (entry (a .table .now)) (a .renderer) (a .row) (a .mark) (take (a .width) (a .cells))) allLines (l .k) PostAncestry (omega arith) (l .inv .2) (rw (c .before .line-at .ensures) at (c .line-length .ensures)))
 
 returns : tie.Need-returns Inv-loop μ-loop

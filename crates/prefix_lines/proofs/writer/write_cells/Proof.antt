@@ -1,3 +1,4 @@
+-- Writes a line's cells, and gives the count of their bytes.
 use Prim.Native.Nat.{_-_}
 use mathlib.Core.Path.{_≡_}
 use native.Mathlib.Omega.{arith}
@@ -22,7 +23,10 @@ part-copy-bytes-start : tie.Need-part-copy-bytes-start
 part-copy-bytes-start c = search needs
 
 part-copy-bytes-end : tie.Need-part-copy-bytes-end
-part-copy-bytes-end c = let a = c .before .before .before .before .before .before .args in omega (arith, c .before .before .before .draw-cells .ensures .count (search needs), cells-short (entry (a .table .now)) (entry-short (a .table .now)) (a .renderer) (a .row) (a .mark) (a .line) (take (a .width) (a .cells)), length-take (a .width) (a .cells), c .before .before .before .before .before .before .pre .0, c .before .before .before .draw-cells .kept .0)
+part-copy-bytes-end c =
+    let at-draw-cells = c .before .before .before in
+    let start = at-draw-cells .before .before .before in
+    let a = start .args in omega (arith, at-draw-cells .draw-cells .ensures .count (search needs), cells-short (entry (a .table .now)) (entry-short (a .table .now)) (a .renderer) (a .row) (a .mark) (a .line) (take (a .width) (a .cells)), length-take (a .width) (a .cells), start .pre .0, at-draw-cells .draw-cells .kept .0)
 
 copy-bytes-requires : tie.Need-copy-bytes-requires
 copy-bytes-requires c κs = search needs
@@ -32,11 +36,14 @@ same-length c = search needs
 
 returns : tie.Need-returns
 returns c =
-    let a = c .before .before .before .before .before .before .before .before .before .before .args in
-    let d = c .before .before .before .before .before .before .before .draw-cells in
+    let at-copy-bytes = c .before .before in
+    let at-draw-cells = at-copy-bytes .before .before .before .before .before in
+    let start = at-draw-cells .before .before .before in
+    let a = start .args in
+    let d = at-draw-cells .draw-cells in
     let z : d .result - 0 ≡ d .result = omega arith in
     let e : take (d .result - 0) (drop 0 (d .last .0)) ≡ (cellsText (entry (a .table .now)) (a .renderer) (a .row) (a .mark) (take (a .width) (a .cells)) (a .line)) = rw z (d .ensures .bytes (search needs)) in
-    (d .ensures .count (search needs), rw e at (c .before .before .copy-bytes .ensures (rw e (c .before .before .before .before .before .before .before .before .before .before .pre .1))))
+    (d .ensures .count (search needs), rw e at (at-copy-bytes .copy-bytes .ensures (rw e (start .pre .1))))
 
 pub write-cells-spec : {M : Type 1} → statement M
 write-cells-spec =

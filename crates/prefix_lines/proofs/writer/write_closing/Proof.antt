@@ -1,3 +1,4 @@
+-- Writes what stands behind a line's cells, and gives the count of its bytes.
 use native.Mathlib.Omega.{arith}
 use Rattle.prefix_lines.proofs.LineLaws.{closing-next, closing-plain, closing-listed}
 use borrow.Author.Needs.{needs}

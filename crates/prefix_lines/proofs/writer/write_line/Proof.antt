@@ -1,3 +1,4 @@
+-- Writes a line in its frame, where the row has it, and gives the count of its bytes.
 use Prim.Native.Nat.{_+_, _-_, _≤_}
 use mathlib.Core.Path.{_≡_, sym, _∙_}
 use mathlib.Core.Bool.{true}
@@ -18,18 +19,24 @@ shown : (c : tie.Then1) → isPresent (c .before .before .before .args .renderer
 shown c = sym (c .before .is-present .ensures) ∙ c .if1 .taken
 
 -- and it fits
-fits : (c : tie.Then1) → length (cellsText (entry (c .before .before .before .args .table .now)) (c .before .before .before .args .renderer) (c .before .before .before .args .row) (c .before .before .before .args .mark) (take (c .before .before .before .args .width) (c .before .before .before .args .cells)) (c .before .before .before .args .line)) + frameLength (c .before .before .before .args .frame) ≤ length (c .before .before .before .args .out .now)
+fits : (c : tie.Then1) → (let a = c .before .before .before .args in length (cellsText (entry (a .table .now)) (a .renderer) (a .row) (a .mark) (take (a .width) (a .cells)) (a .line)) + frameLength (a .frame) ≤ length (a .out .now))
 fits c = let a = c .before .before .before .args in omega (arith, present-length (a .frame) (entry (a .table .now)) (a .renderer) (a .row) (a .mark) (a .line) (take (a .width) (a .cells)) (shown c))
 
 -- what stands before the cells is written
 begun : (c : tie.After-slice-known2) → c .before .before .write-opening .result ≤ length (c .before .before .write-opening .last .0)
-begun c = let a = c .before .before .before .before .before .before .before .args in omega (arith, fits (c .before .before .before .before), frame-parts (a .frame) (a .line), c .before .before .write-opening .ensures .0, c .before .before .write-opening .kept .0)
+begun c =
+    let at-write-opening = c .before .before in
+    let at-test = at-write-opening .before .before in
+    let a = at-test .before .before .before .args in
+    omega (arith, fits at-test, frame-parts (a .frame) (a .line), at-write-opening .write-opening .ensures .0, at-write-opening .write-opening .kept .0)
 
 -- the cells are put back in place
 whole : (c : tie.After-slice-known3)
-    → length (take (c .before .before .before .before .before .before .write-opening .result) (c .before .before .before .before .before .before .write-opening .last .0) ++ (c .before .before .write-cells .last .0
-    ++ drop (length (c .before .before .before .before .before .before .write-opening .last .0) - c .before .before .before .before .before .before .write-opening .result) (drop (c .before .before .before .before .before .before .write-opening .result) (c .before .before .before .before .before .before .write-opening .last .0))))
-    ≡ length (c .before .before .before .before .before .before .before .before .before .before .before .args .out .now)
+    → (let at-write-opening = c .before .before .before .before .before .before in
+    let o = at-write-opening .write-opening in
+    length (take (o .result) (o .last .0) ++ (c .before .before .write-cells .last .0
+    ++ drop (length (o .last .0) - o .result) (drop (o .result) (o .last .0))))
+    ≡ length (at-write-opening .before .before .before .before .before .args .out .now))
 whole c =
     let w = c .before .before .before .before .before .before .write-opening in
     part-length (w .last .0) (c .before .before .write-cells .last .0) (w .result) (c .before .before .write-cells .kept .0) (begun (c .before .before .before .before)) ∙ w .kept .0
@@ -38,7 +45,9 @@ is-present-requires : tie.Need-is-present-requires
 is-present-requires c κs = search needs
 
 write-opening-requires : tie.Need-write-opening-requires
-write-opening-requires c κs = let a = c .before .before .before .before .args in omega (arith, fits (c .before), frame-parts (a .frame) (a .line))
+write-opening-requires c κs =
+    let a = c .before .before .before .before .args in
+    omega (arith, fits (c .before), frame-parts (a .frame) (a .line))
 
 sub-write-cells : tie.Need-sub-write-cells
 sub-write-cells c = begun c
@@ -51,42 +60,73 @@ part-write-cells-end c = search needs
 
 write-cells-requires : tie.Need-write-cells-requires
 write-cells-requires c κs =
-    let a = c .before .before .before .before .before .before .before .before .args in
-    let w = c .before .before .before .write-opening in
-    (c .before .before .before .before .before .before .before .before .pre .0, omega (arith, fits (c .before .before .before .before .before), frame-parts (a .frame) (a .line), part-room (w .last .0) (w .result), w .ensures .0, w .kept .0))
+    let at-write-opening = c .before .before .before in
+    let at-test = at-write-opening .before .before in
+    let start = at-test .before .before .before in
+    let a = start .args in
+    let w = at-write-opening .write-opening in
+    (start .pre .0, omega (arith, fits at-test, frame-parts (a .frame) (a .line), part-room (w .last .0) (w .result), w .ensures .0, w .kept .0))
 
 add-end : tie.Need-add-end
-add-end c = let a = c .before .before .before .before .before .before .before .before .before .before .before .args in omega (arith, fits (c .before .before .before .before .before .before .before .before), frame-parts (a .frame) (a .line), c .before .before .before .before .before .before .write-opening .ensures .0, c .before .before .write-cells .ensures .0)
+add-end c =
+    let at-write-cells = c .before .before in
+    let at-write-opening = at-write-cells .before .before .before .before in
+    let at-test = at-write-opening .before .before in
+    let a = at-test .before .before .before .args in
+    omega (arith, fits at-test, frame-parts (a .frame) (a .line), at-write-opening .write-opening .ensures .0, at-write-cells .write-cells .ensures .0)
 
 sub-write-closing : tie.Need-sub-write-closing
-sub-write-closing c = let a = c .before .before .before .before .before .before .before .before .before .before .before .args in omega (arith, fits (c .before .before .before .before .before .before .before .before), frame-parts (a .frame) (a .line), c .before .before .before .before .before .before .write-opening .ensures .0, c .before .before .write-cells .ensures .0, whole c)
+sub-write-closing c =
+    let at-write-cells = c .before .before in
+    let at-write-opening = at-write-cells .before .before .before .before in
+    let at-test = at-write-opening .before .before in
+    let a = at-test .before .before .before .args in
+    omega (arith, fits at-test, frame-parts (a .frame) (a .line), at-write-opening .write-opening .ensures .0, at-write-cells .write-cells .ensures .0, whole c)
 
 part-write-closing-start : tie.Need-part-write-closing-start
-part-write-closing-start c = let a = c .before .before .before .before .before .before .before .before .before .before .before .args in omega (arith, fits (c .before .before .before .before .before .before .before .before), frame-parts (a .frame) (a .line), c .before .before .before .before .before .before .write-opening .ensures .0, c .before .before .write-cells .ensures .0, whole c)
+part-write-closing-start c =
+    let at-write-cells = c .before .before in
+    let at-write-opening = at-write-cells .before .before .before .before in
+    let at-test = at-write-opening .before .before in
+    let a = at-test .before .before .before .args in
+    omega (arith, fits at-test, frame-parts (a .frame) (a .line), at-write-opening .write-opening .ensures .0, at-write-cells .write-cells .ensures .0, whole c)
 
 part-write-closing-end : tie.Need-part-write-closing-end
 part-write-closing-end c = search needs
 
 write-closing-requires : tie.Need-write-closing-requires
 write-closing-requires c κs =
-    let a = c .before .before .before .before .before .before .before .before .before .before .before .before .args in
-    let w = c .before .before .before .before .before .before .before .write-opening in
-    let o = take (w .result) (w .last .0) ++ (c .before .before .before .write-cells .last .0 ++ drop (length (w .last .0) - w .result) (drop (w .result) (w .last .0))) in
-    omega (arith, fits (c .before .before .before .before .before .before .before .before .before), frame-parts (a .frame) (a .line), part-room o (w .result + c .before .before .before .write-cells .result), w .ensures .0, c .before .before .before .write-cells .ensures .0, whole (c .before))
+    let at-write-cells = c .before .before .before in
+    let at-write-opening = at-write-cells .before .before .before .before in
+    let at-test = at-write-opening .before .before in
+    let a = at-test .before .before .before .args in
+    let w = at-write-opening .write-opening in
+    let o = take (w .result) (w .last .0) ++ (at-write-cells .write-cells .last .0 ++ drop (length (w .last .0) - w .result) (drop (w .result) (w .last .0))) in
+    omega (arith, fits at-test, frame-parts (a .frame) (a .line), part-room o (w .result + at-write-cells .write-cells .result), w .ensures .0, at-write-cells .write-cells .ensures .0, whole (c .before))
 
 add-result : tie.Need-add-result
-add-result c = let a = c .before .before .before .before .before .before .before .before .before .before .before .before .before .before .before .args in omega (arith, fits (c .before .before .before .before .before .before .before .before .before .before .before .before), frame-parts (a .frame) (a .line), c .before .before .before .before .before .before .before .before .before .before .write-opening .ensures .0, c .before .before .before .before .before .before .write-cells .ensures .0, c .before .before .write-closing .ensures .0)
+add-result c =
+    let at-write-closing = c .before .before in
+    let at-write-cells = at-write-closing .before .before .before .before in
+    let at-write-opening = at-write-cells .before .before .before .before in
+    let at-test = at-write-opening .before .before in
+    let a = at-test .before .before .before .args in
+    omega (arith, fits at-test, frame-parts (a .frame) (a .line), at-write-opening .write-opening .ensures .0, at-write-cells .write-cells .ensures .0, at-write-closing .write-closing .ensures .0)
 
 same-length : tie.Need-same-length
 same-length c = search needs
 
 returns : tie.Need-returns
 returns c =
-    let a = c .before .before .before .before .before .before .before .before .before .before .before .before .before .before .before .args in
-    let h = shown (c .before .before .before .before .before .before .before .before .before .before .before .before) in
-    let o = c .before .before .before .before .before .before .before .before .before .before .write-opening in
-    let w = c .before .before .before .before .before .before .write-cells in
-    let g = c .before .before .write-closing in (
+    let at-write-closing = c .before .before in
+    let at-write-cells = at-write-closing .before .before .before .before in
+    let at-write-opening = at-write-cells .before .before .before .before in
+    let at-test = at-write-opening .before .before in
+    let a = at-test .before .before .before .args in
+    let h = shown at-test in
+    let o = at-write-opening .write-opening in
+    let w = at-write-cells .write-cells in
+    let g = at-write-closing .write-closing in (
       omega (arith, o .ensures .0, w .ensures .0, g .ensures .0, frame-parts (a .frame) (a .line), present-length (a .frame) (entry (a .table .now)) (a .renderer) (a .row) (a .mark) (a .line) (take (a .width) (a .cells)) h),
       line-written (a .frame) (entry (a .table .now)) (a .renderer) (a .row) (a .mark) (a .line) (take (a .width) (a .cells)) h (a .out .now)
           (part-written (opening (a .frame) (a .line)) (cellsText (entry (a .table .now)) (a .renderer) (a .row) (a .mark) (take (a .width) (a .cells)) (a .line)) (a .out .now) (o .ensures .1) (o .ensures .0) (w .ensures .1))

@@ -1,3 +1,4 @@
+-- Writes a row's lines, and gives the count of their bytes.
 use borrow.Author.Needs.{needs}
 use Prim.Native.Nat.{_≤_, _+_, _-_}
 use mathlib.Core.Path.{_≡_, ap, _∙_}
@@ -54,14 +55,20 @@ part-write-line-end : tie.Need-part-write-line-end Inv-loop μ-loop
 part-write-line-end c = search needs
 
 write-line-requires : tie.Need-write-line-requires Inv-loop μ-loop
-write-line-requires c κs = let a = c .before .before .before .before .before .args in
-    let l = c .before .before .before .loop in
+write-line-requires c κs =
+    let at-loop = c .before .before .before in
+    let a = at-loop .before .before .args in
+    let l = at-loop .loop in
     (l .inv .1, omega (arith, part-room (l .out) (l .at), grown (c .before), joins-within (lineText (a .frame) (entry (a .table .now)) (a .renderer) (a .row) (a .mark) (take (a .width) (a .cells))) allLines (l .k + 1)))
 
 add-at : tie.Need-add-at Inv-loop μ-loop
-add-at c = let a = c .before .before .before .before .before .before .before .before .args in
-    let l = c .before .before .before .before .before .before .loop in
-    omega (arith, grown (c .before .before .before .before), joins-within (lineText (a .frame) (entry (a .table .now)) (a .renderer) (a .row) (a .mark) (take (a .width) (a .cells))) allLines (l .k + 1), c .before .before .write-line .ensures .0)
+add-at c =
+    let at-write-line = c .before .before in
+    let after-test = at-write-line .before .before in
+    let at-loop = after-test .before .before in
+    let a = at-loop .before .before .args in
+    let l = at-loop .loop in
+    omega (arith, grown after-test, joins-within (lineText (a .frame) (entry (a .table .now)) (a .renderer) (a .row) (a .mark) (take (a .width) (a .cells))) allLines (l .k + 1), at-write-line .write-line .ensures .0)
 
 add-k : tie.Need-add-k Inv-loop μ-loop
 add-k c = search needs
@@ -70,10 +77,13 @@ loop-less : tie.Need-loop-less Inv-loop μ-loop
 loop-less c = search needs
 
 loop-again : tie.Need-loop-again Inv-loop μ-loop
-loop-again c = let a = c .before .before .before .before .before .before .before .before .args in
-    let l = c .before .before .before .before .before .before .loop in
-    let w = c .before .before .write-line in
-    let g = c .before .before .before .before in (
+loop-again c =
+    let at-write-line = c .before .before in
+    let g = at-write-line .before .before in
+    let at-loop = g .before .before in
+    let a = at-loop .before .before .args in
+    let l = at-loop .loop in
+    let w = at-write-line .write-line in (
       omega arith,
       l .inv .1,
       l .inv .2,

@@ -1,3 +1,4 @@
+-- Writes what stands before a line's cells, and gives the count of its bytes.
 use native.Mathlib.Omega.{arith}
 use lib.ListN.{length-set}
 use Rattle.prefix_lines.proofs.LineLaws.{opening-begun, opening-plain, opening-listed}
@@ -21,16 +22,25 @@ same-length : tie.Need-same-length
 same-length c = search needs
 
 returns : tie.Need-returns
-returns c = let a = c .before .before .before .before .args in opening-plain (a .line) (a .out .now) (c .before .before .kind-letter .ensures) (c .before .before .before .before .pre) (c .enum-told2 .given .1)
+returns c =
+    let at-kind-letter = c .before .before in
+    let start = at-kind-letter .before .before in
+    let a = start .args in opening-plain (a .line) (a .out .now) (at-kind-letter .kind-letter .ensures) (start .pre) (c .enum-told2 .given .1)
 
 slice-write-out-2 : tie.Need-slice-write-out-2
-slice-write-out-2 c = let a = c .before .before .before .before .args in omega (arith, length-set (a .out .now) 0 (c .before .before .kind-letter .result), c .before .before .before .before .pre, opening-listed (a .line) (a .out .now) (c .before .before .kind-letter .ensures) (c .before .before .before .before .pre) (c .enum-told .given .1) .0)
+slice-write-out-2 c =
+    let at-kind-letter = c .before .before in
+    let start = at-kind-letter .before .before in
+    let a = start .args in omega (arith, length-set (a .out .now) 0 (at-kind-letter .kind-letter .result), start .pre, opening-listed (a .line) (a .out .now) (at-kind-letter .kind-letter .ensures) (start .pre) (c .enum-told .given .1) .0)
 
 same-length-2 : tie.Need-same-length-2
 same-length-2 c = search needs
 
 returns-2 : tie.Need-returns-2
-returns-2 c = let a = c .before .before .before .before .args in opening-listed (a .line) (a .out .now) (c .before .before .kind-letter .ensures) (c .before .before .before .before .pre) (c .enum-told .given .1)
+returns-2 c =
+    let at-kind-letter = c .before .before in
+    let start = at-kind-letter .before .before in
+    let a = start .args in opening-listed (a .line) (a .out .now) (at-kind-letter .kind-letter .ensures) (start .pre) (c .enum-told .given .1)
 
 pub write-opening-spec : {M : Type 1} → statement M
 write-opening-spec =

@@ -79,7 +79,19 @@ add-bits-12 : tie.Need-add-bits-12
 add-bits-12 c = search needs
 
 returns : tie.Need-returns
-returns c = rw (c .before .before .before .before .before .before .before .before .before .before .before .before .bit .ensures .0, c .before .before .before .before .before .before .before .before .before .before .before .bit2 .ensures .0, c .before .before .before .before .before .before .before .before .before .before .bit3 .ensures .0, c .before .before .before .before .before .before .before .before .before .bit4 .ensures .0, c .before .before .before .before .before .before .before .before .bit5 .ensures .0, c .before .before .before .before .before .before .before .bit6 .ensures .0, c .before .before .before .before .before .before .bit7 .ensures .0, c .before .before .before .before .before .bit8 .ensures .0, c .before .before .before .before .bit9 .ensures .0, c .before .before .before .bit10 .ensures .0, c .before .before .bit11 .ensures .0, c .before .bit12 .ensures .0, c .bit13 .ensures .0)
+returns c =
+    let at-bit11 = c .before .before in
+    let at-bit10 = at-bit11 .before in
+    let at-bit9 = at-bit10 .before in
+    let at-bit8 = at-bit9 .before in
+    let at-bit7 = at-bit8 .before in
+    let at-bit6 = at-bit7 .before in
+    let at-bit5 = at-bit6 .before in
+    let at-bit4 = at-bit5 .before in
+    let at-bit3 = at-bit4 .before in
+    let at-bit2 = at-bit3 .before in
+    let at-bit = at-bit2 .before in
+    rw (at-bit .bit .ensures .0, at-bit2 .bit2 .ensures .0, at-bit3 .bit3 .ensures .0, at-bit4 .bit4 .ensures .0, at-bit5 .bit5 .ensures .0, at-bit6 .bit6 .ensures .0, at-bit7 .bit7 .ensures .0, at-bit8 .bit8 .ensures .0, at-bit9 .bit9 .ensures .0, at-bit10 .bit10 .ensures .0, at-bit11 .bit11 .ensures .0, c .before .bit12 .ensures .0, c .bit13 .ensures .0)
 
 pub link-line-spec : {M : Type 1} → statement M
 link-line-spec =
