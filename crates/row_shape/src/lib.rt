@@ -131,14 +131,14 @@ pub fn next_row_shape(shaper: Shaper, node: u32, entries: Entries) -> RowAnswer
     // a single entry whose column lies right of the node swaps columns with it; else the node's changes places with itself
     let given_up = placing::given_up(n, parent_column, column);
     let other = placing::or_else(given_up, column);
+    let own_slot = slots[column];
+    let other_slot = slots[other];
     let was = shaper.slots[other];
     let old = placing::column_before(was, other, live, column);
     let swap = Swap {
         given_up,
         was_direct: old.is_parent(),
     };
-    let own_slot = slots[column];
-    let other_slot = slots[other];
     slots[column] = other_slot;
     slots[other] = own_slot;
     let drawn_in = parents[other];

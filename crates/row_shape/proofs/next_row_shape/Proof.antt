@@ -207,22 +207,46 @@ given-up-requires c κs = search needs
 or-else-requires : tie.Need-or-else-requires Inv-loop μ-loop Inv-loop2 μ-loop2 Inv-loop3 μ-loop3
 or-else-requires c κs = search needs
 
-mul-was : tie.Need-mul-was Inv-loop μ-loop Inv-loop2 μ-loop2 Inv-loop3 μ-loop3
-mul-was c = let t = c .before .before in
+mul-own-slot : tie.Need-mul-own-slot Inv-loop μ-loop Inv-loop2 μ-loop2 Inv-loop3 μ-loop3
+mul-own-slot c = omega (arith, c .before .before .before .loop .inv .1 .within)
+
+array-copy-out-own-slot :
+    tie.Need-array-copy-out-own-slot Inv-loop μ-loop Inv-loop2 μ-loop2 Inv-loop3 μ-loop3
+array-copy-out-own-slot c = c .before .before .before .loop .inv .1 .within
+
+mul-other-slot : tie.Need-mul-other-slot Inv-loop μ-loop Inv-loop2 μ-loop2 Inv-loop3 μ-loop3
+mul-other-slot c = let t = c .before .before .before in
     let v = t .before .loop in
     let a = t .before .before .before .before .before .before .before .before .before .before .before .before .before .before .before .before .before .before .before .args in
     let b = v .inv .1 in
     let g = row-walked (a .t1) (a .node) (a .t3) _ _ _ b _ _ _ _ _ _ (v .inv .2) (t .loop-test .left) in
-    omega (arith, other-within (a .t1) (a .node) (a .t3) _ _ _ b _ _ _ _ _ g _ (c .before .given-up .ensures) _ (c .or-else .ensures))
+    omega (arith, other-within (a .t1) (a .node) (a .t3) _ _ _ b _ _ _ _ _ g _ (c .before .before .given-up .ensures) _ (c .before .or-else .ensures))
+
+array-copy-out-other-slot :
+    tie.Need-array-copy-out-other-slot Inv-loop μ-loop Inv-loop2 μ-loop2 Inv-loop3 μ-loop3
+array-copy-out-other-slot c = let t = c .before .before .before in
+    let v = t .before .loop in
+    let a = t .before .before .before .before .before .before .before .before .before .before .before .before .before .before .before .before .before .before .before .args in
+    let b = v .inv .1 in
+    let g = row-walked (a .t1) (a .node) (a .t3) _ _ _ b _ _ _ _ _ _ (v .inv .2) (t .loop-test .left) in
+    other-within (a .t1) (a .node) (a .t3) _ _ _ b _ _ _ _ _ g _ (c .before .before .given-up .ensures) _ (c .before .or-else .ensures)
+
+mul-was : tie.Need-mul-was Inv-loop μ-loop Inv-loop2 μ-loop2 Inv-loop3 μ-loop3
+mul-was c = let t = c .before .before .before .before in
+    let v = t .before .loop in
+    let a = t .before .before .before .before .before .before .before .before .before .before .before .before .before .before .before .before .before .before .before .args in
+    let b = v .inv .1 in
+    let g = row-walked (a .t1) (a .node) (a .t3) _ _ _ b _ _ _ _ _ _ (v .inv .2) (t .loop-test .left) in
+    omega (arith, other-within (a .t1) (a .node) (a .t3) _ _ _ b _ _ _ _ _ g _ (c .before .before .before .given-up .ensures) _ (c .before .before .or-else .ensures))
 
 element-copy-out-was :
     tie.Need-element-copy-out-was Inv-loop μ-loop Inv-loop2 μ-loop2 Inv-loop3 μ-loop3
-element-copy-out-was c = let t = c .before .before in
+element-copy-out-was c = let t = c .before .before .before .before in
     let v = t .before .loop in
     let a = t .before .before .before .before .before .before .before .before .before .before .before .before .before .before .before .before .before .before .before .args in
     let b = v .inv .1 in
     let g = row-walked (a .t1) (a .node) (a .t3) _ _ _ b _ _ _ _ _ _ (v .inv .2) (t .loop-test .left) in
-    other-within (a .t1) (a .node) (a .t3) _ _ _ b _ _ _ _ _ g _ (c .before .given-up .ensures) _ (c .or-else .ensures)
+    other-within (a .t1) (a .node) (a .t3) _ _ _ b _ _ _ _ _ g _ (c .before .before .before .given-up .ensures) _ (c .before .before .or-else .ensures)
 
 column-before-requires :
     tie.Need-column-before-requires Inv-loop μ-loop Inv-loop2 μ-loop2 Inv-loop3 μ-loop3
@@ -231,30 +255,6 @@ column-before-requires c κs = search needs
 is-parent-requires :
     tie.Need-is-parent-requires Inv-loop μ-loop Inv-loop2 μ-loop2 Inv-loop3 μ-loop3
 is-parent-requires c κs = search needs
-
-mul-own-slot : tie.Need-mul-own-slot Inv-loop μ-loop Inv-loop2 μ-loop2 Inv-loop3 μ-loop3
-mul-own-slot c = omega (arith, c .before .before .before .before .before .before .loop .inv .1 .within)
-
-array-copy-out-own-slot :
-    tie.Need-array-copy-out-own-slot Inv-loop μ-loop Inv-loop2 μ-loop2 Inv-loop3 μ-loop3
-array-copy-out-own-slot c = c .before .before .before .before .before .before .loop .inv .1 .within
-
-mul-other-slot : tie.Need-mul-other-slot Inv-loop μ-loop Inv-loop2 μ-loop2 Inv-loop3 μ-loop3
-mul-other-slot c = let t = c .before .before .before .before .before .before in
-    let v = t .before .loop in
-    let a = t .before .before .before .before .before .before .before .before .before .before .before .before .before .before .before .before .before .before .before .args in
-    let b = v .inv .1 in
-    let g = row-walked (a .t1) (a .node) (a .t3) _ _ _ b _ _ _ _ _ _ (v .inv .2) (t .loop-test .left) in
-    omega (arith, other-within (a .t1) (a .node) (a .t3) _ _ _ b _ _ _ _ _ g _ (c .before .before .before .before .before .given-up .ensures) _ (c .before .before .before .before .or-else .ensures))
-
-array-copy-out-other-slot :
-    tie.Need-array-copy-out-other-slot Inv-loop μ-loop Inv-loop2 μ-loop2 Inv-loop3 μ-loop3
-array-copy-out-other-slot c = let t = c .before .before .before .before .before .before in
-    let v = t .before .loop in
-    let a = t .before .before .before .before .before .before .before .before .before .before .before .before .before .before .before .before .before .before .before .args in
-    let b = v .inv .1 in
-    let g = row-walked (a .t1) (a .node) (a .t3) _ _ _ b _ _ _ _ _ _ (v .inv .2) (t .loop-test .left) in
-    other-within (a .t1) (a .node) (a .t3) _ _ _ b _ _ _ _ _ g _ (c .before .before .before .before .before .given-up .ensures) _ (c .before .before .before .before .or-else .ensures)
 
 mul-slots-4 : tie.Need-mul-slots-4 Inv-loop μ-loop Inv-loop2 μ-loop2 Inv-loop3 μ-loop3
 mul-slots-4 c = omega (arith, c .before .before .before .before .before .before .before .before .loop .inv .1 .within)
@@ -428,13 +428,13 @@ ended-requires c κs = search needs
 returns-4 : tie.Need-returns-4 Inv-loop μ-loop Inv-loop2 μ-loop2 Inv-loop3 μ-loop3
 returns-4 c = let q = c .before .before .before .before in
     let drawn = q .before .before .before .before .before .before .before .before in
-    let swapped = drawn .before .before .before .before .before in
-    let t = swapped .before .before .before .before .before in
+    let swapped = drawn .before .before .before in
+    let t = swapped .before .before .before .before .before .before .before in
     let v = t .before .loop in
     let a = t .before .before .before .before .before .before .before .before .before .before .before .before .before .before .before .before .before .before .before .args in
     let b = v .inv .1 in
     let g = row-walked (a .t1) (a .node) (a .t3) _ _ _ b _ _ _ _ _ _ (v .inv .2) (t .loop-test .left) in
-    row-done (a .t1) (a .node) (a .t3) _ _ _ b _ _ _ _ _ g _ (swapped .before .before .before .before .given-up .ensures) _ (swapped .before .before .before .or-else .ensures) _ refl _ (rw (t .before .before .nobody .ensures) refl) _
+    row-done (a .t1) (a .node) (a .t3) _ _ _ b _ _ _ _ _ g _ (swapped .before .before .before .before .before .before .given-up .ensures) _ (swapped .before .before .before .before .before .or-else .ensures) _ refl _ (rw (t .before .before .nobody .ensures) refl) _
     (swapped .is-parent .ensures ∙ ap isParent (swapped .before .column-before .ensures)) _ (drawn .before .new .ensures) _ (drawn .need-link-line .ensures) _ (q .loop3 .k)
     (omega (arith, c .before .before .before .loop3-test .left, q .before .before .reach-end .ensures)) (q .loop3 .inv) _ _ (t .before .before .before .before .before .before .before .is-head .ensures) (c .before .separator-line .ensures) _ (c .ended .ensures)
 
@@ -490,14 +490,14 @@ next-row-shape-spec =
     loop-again
     given-up-requires
     or-else-requires
-    mul-was
-    element-copy-out-was
-    column-before-requires
-    is-parent-requires
     mul-own-slot
     array-copy-out-own-slot
     mul-other-slot
     array-copy-out-other-slot
+    mul-was
+    element-copy-out-was
+    column-before-requires
+    is-parent-requires
     mul-slots-4
     array-set-from-slots-4
     mul-slots-5
