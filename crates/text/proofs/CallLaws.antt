@@ -1,16 +1,14 @@
 -- Laws of the text call: its answers, one for each way out.
-use mathlib.Core.Path.{_≡_, refl, sym, ap, ap₂, _∙_}
-use mathlib.Core.Bool.{Bool, true, false, cond, not}
-use mathlib.Core.List.{List, [], _∷_}
-use Prim.Native.Nat.{ℕ, zero, suc, _<_, _≤_, min}
+use mathlib.Core.Path.{_≡_, refl, sym, ap, _∙_}
+use mathlib.Core.Bool.{true, false, cond}
+use mathlib.Core.List.{List}
+use Prim.Native.Nat.{ℕ, zero, suc, _<_, _≤_}
 use native.Mathlib.Omega.{arith}
 use borrow.Author.Tests.{lt-ltb, le-ltb, ne-eqb}
-use lib.Dec.{ltb, eqb}
+use lib.Dec.{ltb}
 use lib.ListN.{length}
-use Rattle.column.specs.Columns.{columnLimit, SpareEmpty}
-use Rattle.render.specs.declared.render.Ancestor.{Ancestor as Entry}
+use Rattle.column.specs.Columns.{columnLimit}
 use Rattle.render.specs.declared.render.Entries.{Entries}
-use Rattle.render.specs.declared.types.RowShape.{RowShape}
 use Rattle.render.specs.Entries.{listed}
 use Rattle.render.specs.Mark.{isMark}
 use Rattle.render.specs.Refusals.{notRefused, markOutsideSpan, messageTooLong, messageByteNotWritable, outputShorterThanLines, refusal}
@@ -21,13 +19,12 @@ use Rattle.row_shape.specs.Row.{RowReply, row}
 use Rattle.row_shape.specs.Promises.{rowReplyOf, Rows}
 use Rattle.row_shape.proofs.RowFits.{row-fits}
 use Rattle.glyphs.specs.declared.Renderer.{Renderer}
-use Rattle.glyphs.specs.Joins.{over}
 use Rattle.message.specs.Message.{messageLimit, isWritable, allOf, linesOf}
 use Rattle.output.specs.declared.TextState.{TextState}
-use Rattle.output.specs.Output.{textOf, lineMeasure, TextView, textViewOf}
+use Rattle.output.specs.Output.{textOf, TextView, textViewOf}
 use Rattle.text.specs.declared.graph_text_renderer.TextAnswer.{TextAnswer}
 use Rattle.text.specs.declared.prefix_lines_to_text.RowText.{RowText}
-use Rattle.text.specs.Text.{textLines, textAfter, textChecks, textAnswer, TextReply, text}
+use Rattle.text.specs.Text.{textLines, textAfter, textChecks, textAnswer, text}
 use Rattle.text.specs.Promises.{textReplyOf, Texts}
 use Rattle.text.specs.Inner.{RowTexts}
 

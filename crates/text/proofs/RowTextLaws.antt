@@ -27,7 +27,8 @@ use Rattle.glyphs.specs.Row.{rowOf}
 use Rattle.glyphs.proofs.CellLaws.{joins-from}
 use Rattle.glyphs.proofs.JoinLaws.{joins-append}
 use Rattle.glyphs.proofs.TableLaws.{entry-short}
-use Rattle.message.specs.Message.{linesOf, otherLines, messageLimit}
+use Rattle.message.specs.Message.{linesOf, messageLimit}
+use Rattle.message.specs.Inner.{otherLines}
 use Rattle.message.proofs.MessageLaws.{lines-few}
 use Rattle.output.specs.declared.Put.{Put}
 use Rattle.output.specs.declared.TextState.{TextState}
