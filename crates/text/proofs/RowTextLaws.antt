@@ -21,7 +21,7 @@ use Rattle.glyphs.specs.declared.types.Line.{Line}
 use Rattle.glyphs.specs.declared.types.Line.the-variants.{PreNode, Node, PostNode, Link, SecondLink, Term, SecondTerm, Ancestry, PostAncestry}
 use Rattle.glyphs.specs.declared.types.Row.{Row}
 use Rattle.glyphs.specs.Cells.{allLines, isPresent, keep, choiceOf, PrefixLine, lineOf, lines, glyphsOf, bytesOf}
-use Rattle.glyphs.specs.Inner.{entry, Draws, cellBytes, cellsText}
+use Rattle.glyphs.specs.Drawing.{entry, Draws, cellBytes, cellsText}
 use Rattle.glyphs.specs.Joins.{over}
 use Rattle.glyphs.specs.Row.{rowOf}
 use Rattle.glyphs.proofs.CellLaws.{joins-from}

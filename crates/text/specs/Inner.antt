@@ -14,7 +14,7 @@ use Rattle.glyphs.specs.declared.types.Line.the-variants.{Link, SecondLink, Ter
 use Rattle.glyphs.specs.declared.types.Row.{Row}
 use Rattle.glyphs.specs.Cells.{allLines, isPresent}
 use Rattle.glyphs.specs.Characters.{blank}
-use Rattle.glyphs.specs.Inner.{cellsText}
+use Rattle.glyphs.specs.Drawing.{cellsText}
 use Rattle.glyphs.specs.Joins.{over}
 use Rattle.glyphs.specs.Row.{rowOf}
 use Rattle.message.specs.Message.{linesOf}

@@ -1,6 +1,6 @@
 -- Draws a line that is written so often, and gives the count of its bytes.
 use native.Mathlib.Omega.{arith}
-use Rattle.glyphs.specs.Inner.{entry}
+use Rattle.glyphs.specs.Drawing.{entry}
 use Rattle.glyphs.proofs.TableLaws.{entry-short}
 use Rattle.text.specs.Inner.{prefixText}
 use Rattle.text.proofs.TextLineLaws.{prefix-short}

@@ -7,7 +7,7 @@ use lib.ListN.{length, take, drop, length-take}
 use borrow.Author.Needs.{needs}
 use Rattle.glyphs.specs.declared.types.Line.the-variants.{PostAncestry}
 use Rattle.glyphs.specs.Cells.{allLines}
-use Rattle.glyphs.specs.Inner.{entry}
+use Rattle.glyphs.specs.Drawing.{entry}
 use Rattle.text.specs.Inner.{prefixText, spread, lineTimes}
 use Rattle.text.proofs.RepeatLaws.{Putting, spread-more, spread-bound, repeated-short, row-none, plan-short}
 use Rattle.text.proofs.prefix_lines_to_text.put_row.Statement.{statement}

@@ -4,7 +4,7 @@ use Prim.Native.Nat.{_≤_}
 use native.Mathlib.Omega.{arith}
 use lib.ListN.{length}
 use Rattle.glyphs.specs.declared.types.Line.{Line}
-use Rattle.glyphs.specs.Inner.{entry}
+use Rattle.glyphs.specs.Drawing.{entry}
 use Rattle.glyphs.proofs.TableLaws.{entry-short}
 use Rattle.output.proofs.PutLaws.{queue-long, begin-short, puts-append, from-start}
 use Rattle.text.specs.Inner.{prefixText}

@@ -2,7 +2,7 @@
 use Prim.Native.Nat.{_-_}
 use native.Mathlib.Omega.{arith}
 use lib.ListN.{drop, length-take}
-use Rattle.glyphs.specs.Inner.{entry}
+use Rattle.glyphs.specs.Drawing.{entry}
 use Rattle.output.proofs.PutLaws.{queue-long}
 use Rattle.text.proofs.RowTextLaws.{state-plain, state-queued}
 use borrow.Author.Needs.{needs}
