@@ -12,7 +12,7 @@ use Rattle.glyphs.specs.declared.types.Line.{Line}
 use Rattle.glyphs.specs.declared.types.Place.{Place}
 use Rattle.glyphs.specs.declared.types.Row.{Row}
 use Rattle.glyphs.specs.Cells.{joinsFrom}
-use Rattle.glyphs.specs.Inner.{cellBytes, cellsText}
+use Rattle.glyphs.specs.Drawing.{cellBytes, cellsText}
 use Rattle.glyphs.specs.Joins.{joins}
 use Rattle.glyphs.specs.Row.{firstLink, places}
 use Rattle.glyphs.proofs.JoinLaws.{joins-short}

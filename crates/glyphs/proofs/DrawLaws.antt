@@ -14,7 +14,8 @@ use Rattle.glyphs.specs.declared.Renderer.{Renderer}
 use Rattle.glyphs.specs.declared.types.Glyph.{Glyph}
 use Rattle.glyphs.specs.declared.types.Line.{Line}
 use Rattle.glyphs.specs.declared.types.Row.{Row}
-use Rattle.glyphs.specs.Inner.{Holds, Placed, nextIndex, nextLink, cellBytes, cellsText}
+use Rattle.glyphs.specs.Inner.{Holds, Placed, nextIndex, nextLink}
+use Rattle.glyphs.specs.Drawing.{cellBytes, cellsText}
 use Rattle.glyphs.specs.Joins.{joins, over}
 use Rattle.glyphs.specs.Row.{places}
 use Rattle.glyphs.proofs.CellLaws.{noPlace}

@@ -19,7 +19,8 @@ use Rattle.glyphs.specs.declared.types.Row.{Row}
 use Rattle.glyphs.specs.Ascii as ascii
 use Rattle.glyphs.specs.AsciiLarge as large
 use Rattle.glyphs.specs.BoxDrawing as box
-use Rattle.glyphs.specs.Inner.{Holds, placed, entry, Draws, cellBytes}
+use Rattle.glyphs.specs.Inner.{Holds}
+use Rattle.glyphs.specs.Drawing.{placed, entry, Draws, cellBytes}
 use Rattle.glyphs.specs.Cells.{setOf, glyphsOf, bytesOf, choiceOf}
 
 -- ---- a table draws a set if its entries, computed, are the set's glyphs

@@ -4,6 +4,7 @@ pub mod BoxDrawing
 pub mod Cells
 pub mod Characters
 pub mod GlyphSets
+pub mod Drawing
 pub mod Inner
 pub mod Joins
 pub mod Marks

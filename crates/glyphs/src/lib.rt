@@ -1,7 +1,7 @@
 // What each cell of each prefix line is given, and its bytes, in the five renderers, after ascii.rs, ascii_large.rs and box_drawing.rs.
 ghost use Prim.Native.Nat.{_≤_};
 ghost use lib.ListN.{length};
-ghost use Rattle.glyphs.specs.Inner.{Draws};
+ghost use Rattle.glyphs.specs.Drawing.{Draws};
 
 mod ascii;
 mod ascii_large;

@@ -31,8 +31,7 @@ use Rattle.links.specs.declared.Drawn.{Drawn}
 use Rattle.links.specs.declared.Swap.{Swap}
 use Rattle.links.specs.declared.AncestorColumnBounds.{AncestorColumnBounds}
 use Rattle.links.specs.Links.{boundsOf, linked}
-use Rattle.cells.specs.Cells.{besideNode, padOf, cellOf, cellsFrom}
-use Rattle.cells.specs.Inner.{nodeCell}
+use Rattle.cells.specs.Cells.{besideNode, nodeCell, padOf, cellOf, cellsFrom}
 use Rattle.row_shape.specs.Row.{shapeAt}
 use Rattle.marked.proofs.Holding.{Where, away, there, findIs, at-vacant, at-staggered, Spot, spotIs, nodeSpot, spot-only, empty-holds, enter-stays, walk-stays, flip, flip-left, flip-else, flip-flip, at-swap, finish, dash, at-finish, end-keeps, ids-kept, finish-stays}
 use Rattle.placing.proofs.PlacingLaws.{walk-more}

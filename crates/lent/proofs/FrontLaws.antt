@@ -28,7 +28,7 @@ use denote.Steps.{only, owned, nothing}
 use denote.Struct.Steps.{spelt}
 use denote.Struct.Laws as LL
 use Rattle.render.specs.declared.render.Entry.{Entry}
-use Rattle.lent.specs.Lists.{listLimit}
+use Rattle.lent.specs.Inner.{listLimit}
 use Rattle.render.proofs.render.Entry as T
 use Rattle.render.proofs.render.Entry.Laws as T′
 

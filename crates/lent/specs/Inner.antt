@@ -1,4 +1,4 @@
--- The lists that the callers take.
+-- The lists that the inner functions of the callers take.
 use Prim.Native.Nat.{ℕ}
 
 -- the most entries of a list

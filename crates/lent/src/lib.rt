@@ -3,7 +3,7 @@ ghost use Prim.Native.Nat.{_≤_, min};
 ghost use mathlib.Core.Path.{_≡_};
 ghost use lib.ListN.{take};
 ghost use Rattle.lineage.specs.Promises.{Reserved, Rowed, Measured, Written};
-ghost use Rattle.lent.specs.Lists.{listLimit};
+ghost use Rattle.lent.specs.Inner.{listLimit};
 use glyphs::Renderer;
 use output::TextState;
 use render::Entry;

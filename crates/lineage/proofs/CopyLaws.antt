@@ -13,7 +13,7 @@ use Rattle.render.specs.declared.render.Ancestor.the-variants.{Anonymous}
 use Rattle.render.specs.declared.render.Entry.{Entry}
 use Rattle.render.specs.declared.render.Entries.{Entries}
 use Rattle.render.specs.Entries.{entryLimit, tooMany, overlong, listed, pushed, noEntries}
-use Rattle.lineage.specs.Copying.{copied}
+use Rattle.lineage.specs.Inner.{copied}
 use Rattle.lineage.specs.Promises.{ancestors, Copies}
 
 abbrev pub none : Entry

@@ -1,4 +1,4 @@
--- A list's entries copied one after the other.
+-- What the copy of a lent list is proved by: its entries, copied one after the other.
 use mathlib.Core.List.{List, [], _∷_}
 use Rattle.render.specs.declared.render.Entry.{Entry}
 use Rattle.render.specs.declared.render.Entries.{Entries}

@@ -1,2 +1,2 @@
 pub mod Promises
-pub mod Copying
+pub mod Inner

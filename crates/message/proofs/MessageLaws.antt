@@ -11,8 +11,8 @@ use lib.ListN.{length, take, drop, getD, take-append-drop, drop-of-length-le, le
 use lib.Seq.{drop-cons, take-suc, length-take-le, drop-drop}
 use borrow.Author.Tests.{eq-eqb, ne-eqb, ltb-true, ltb-false}
 use Rattle.glyphs.specs.Characters.{newline}
-use Rattle.message.specs.Inner.{ends}
-use Rattle.message.specs.Message.{allOf, onto, linesOf, lineLength, firstLine, otherLines, trimEnd, keepLast}
+use Rattle.message.specs.Inner.{ends, firstLine, otherLines}
+use Rattle.message.specs.Message.{allOf, onto, linesOf, lineLength, trimEnd, keepLast}
 
 abbrev First-apart : List ℕ → Type 0
 First-apart m = linesOf m ≡ firstLine m ∷ linesOf (otherLines m)

@@ -3,7 +3,6 @@ use Prim.Native.Nat.{ℕ, suc}
 use mathlib.Core.Bool.{Bool, true, cond, _&&_, _||_}
 use mathlib.Core.List.{List, [], _∷_}
 use lib.Dec.{eqb, leb}
-use lib.ListN.{take, drop}
 use Rattle.glyphs.specs.Characters.{newline, blank}
 
 -- "message above 512 bytes" (01, the table's row for text)
@@ -33,14 +32,6 @@ linesOf (b ∷ bs) = cond (eqb b newline) ([] ∷ linesOf bs) (onto b (linesOf b
 abbrev pub lineLength : List ℕ → ℕ
 lineLength [] = 0
 lineLength (b ∷ bs) = cond (eqb b newline) 0 (suc (lineLength bs))
-
--- the line that they are
-abbrev pub firstLine : List ℕ → List ℕ
-firstLine m = take (lineLength m) m
-
--- what is behind it
-abbrev pub otherLines : List ℕ → List ℕ
-otherLines m = drop (suc (lineLength m)) m
 
 -- a byte in front of what is left, where a blank with nothing behind it goes
 abbrev pub keepLast : ℕ → List ℕ → List ℕ

@@ -19,7 +19,7 @@ use Rattle.glyphs.specs.declared.types.Line.{Line}
 use Rattle.glyphs.specs.declared.types.Place.{Place}
 use Rattle.glyphs.specs.declared.types.Row.{Row}
 use Rattle.glyphs.specs.Ascii as ascii
-use Rattle.glyphs.specs.Inner.{entry, Draws, cellBytes, cellsText}
+use Rattle.glyphs.specs.Drawing.{entry, Draws, cellBytes, cellsText}
 use Rattle.glyphs.specs.Joins.{joins, over}
 use Rattle.glyphs.specs.Cells.{allLines, isPresent, keep, choiceOf, lineOf, glyphsOf, bytesOf}
 use Rattle.glyphs.specs.Row.{rowOf, places}

@@ -12,7 +12,7 @@ use Rattle.glyphs.specs.declared.types.Line.{Line}
 use Rattle.glyphs.specs.declared.types.Row.{Row}
 use Rattle.glyphs.specs.Cells.{isPresent}
 use Rattle.glyphs.specs.Characters.{newline, colon}
-use Rattle.glyphs.specs.Inner.{cellsText}
+use Rattle.glyphs.specs.Drawing.{cellsText}
 use Rattle.glyphs.specs.Joins.{over}
 use Rattle.glyphs.proofs.CellLaws.{cells-short}
 use Rattle.glyphs.proofs.OverLaws.{over-one, part-written}

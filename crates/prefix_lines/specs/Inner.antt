@@ -11,7 +11,7 @@ use Rattle.glyphs.specs.declared.types.Line.{Line}
 use Rattle.glyphs.specs.declared.types.Row.{Row}
 use Rattle.glyphs.specs.Cells.{PrefixLine, isPresent, allLines, lines, glyphsOf, bytesOf, joinsFrom}
 use Rattle.glyphs.specs.Characters.{newline, colon}
-use Rattle.glyphs.specs.Inner.{cellsText}
+use Rattle.glyphs.specs.Drawing.{cellsText}
 use Rattle.glyphs.specs.Joins.{joins}
 use Rattle.prefix_lines.specs.declared.writer.Frame.{Frame}
 use Rattle.prefix_lines.specs.declared.writer.Frame.the-variants.{Plain, Listed}

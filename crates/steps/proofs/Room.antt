@@ -21,7 +21,7 @@ use Rattle.glyphs.specs.declared.Renderer.{Renderer}
 use Rattle.glyphs.specs.declared.Renderer.the-variants.{Ascii, AsciiLarge, Square, Curved, Dec}
 use Rattle.glyphs.specs.declared.types.Line.{Line}
 use Rattle.glyphs.specs.Cells.{allLines, setOf}
-use Rattle.glyphs.specs.Inner.{entry, Draws}
+use Rattle.glyphs.specs.Drawing.{entry, Draws}
 use Rattle.glyphs.specs.Joins.{joins}
 use Rattle.glyphs.specs.Row.{rowOf}
 use Rattle.glyphs.proofs.JoinLaws.{joins-append}

@@ -44,7 +44,8 @@ use Rattle.record.specs.Promises.{recordViewOf, Records}
 use Rattle.steps.specs.declared.Progress.{Progress}
 use Rattle.steps.specs.declared.Step.{Step}
 use Rattle.steps.specs.Steps.{refusedIn, ProgressView, programOptions, StepReply, stopped, stepped, next, pageRow, listingRow, onRecord}
-use Rattle.steps.specs.Promises.{progressViewOf, freshText, Begins, undrawn, Steps}
+use Rattle.steps.specs.Promises.{progressViewOf, freshText, Begins, Steps}
+use Rattle.steps.specs.Inner.{undrawn}
 
 -- ---- what a program begins with
 pub begins : (a : Answer) → Fresh programOptions a → Begins (record { shaper = a .shaper; state = freshText; number = 0 })

@@ -2,17 +2,15 @@
 use Prim.Native.Nat.{ℕ}
 use mathlib.Core.Path.{_≡_}
 use mathlib.Core.Bool.{false}
-use mathlib.Core.List.{List, []}
+use mathlib.Core.List.{List}
 use lib.ListN.{length, replicate}
 use Rattle.glyphs.specs.Joins.{over}
 use Rattle.shaper.specs.Shaper.{viewOf, fresh}
 use Rattle.output.specs.declared.TextState.{TextState}
 use Rattle.output.specs.Output.{queueLimit, textViewOf}
-use Rattle.record.specs.declared.Outcome.{Outcome}
-use Rattle.record.specs.declared.Outcome.the-variants.{Ready, Ended, Refused}
 use Rattle.steps.specs.declared.Progress.{Progress}
 use Rattle.steps.specs.declared.Step.{Step}
-use Rattle.steps.specs.Steps.{refusedIn, ProgressView, programOptions, beginning, StepReply, stopped}
+use Rattle.steps.specs.Steps.{ProgressView, programOptions, beginning, StepReply}
 
 -- what a program keeps, in the definition's words
 abbrev pub progressViewOf : Progress → ProgressView
@@ -34,12 +32,6 @@ pub record Begins (r : Progress) : Type 0 where
   pub whole : r ≡ begun
 
 -- ---- a step
-
--- a step without a record
-abbrev pub undrawn : ProgressView → List ℕ → Outcome → StepReply
-undrawn p out Ready = stopped p []
-undrawn p out Ended = stopped p []
-undrawn p out (Refused n) = stopped p (refusedIn out n (p .number))
 
 -- what the definition says, "a prefix of the output and nothing behind it"; a program that stops keeps the structs themselves
 pub record Steps (s : StepReply) (p : Progress) (before after : List ℕ) (r : Step) : Type 0 where

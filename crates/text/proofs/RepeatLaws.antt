@@ -16,7 +16,8 @@ use Rattle.glyphs.specs.declared.types.Line.{Line}
 use Rattle.glyphs.specs.declared.types.Line.the-variants.{PreNode, Node, PostNode, Link, SecondLink, Term, SecondTerm, Ancestry, PostAncestry}
 use Rattle.glyphs.specs.declared.types.Row.{Row}
 use Rattle.glyphs.specs.Cells.{allLines, isPresent}
-use Rattle.message.specs.Message.{linesOf, lineLength, firstLine, otherLines}
+use Rattle.message.specs.Message.{linesOf, lineLength}
+use Rattle.message.specs.Inner.{firstLine, otherLines}
 use Rattle.message.proofs.MessageLaws.{lines-next, line-within, drop-capped, behind}
 use Rattle.output.specs.declared.Put.{Put}
 use Rattle.output.specs.Output.{ended, textOf, Puts}

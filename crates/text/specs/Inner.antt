@@ -14,10 +14,11 @@ use Rattle.glyphs.specs.declared.types.Line.the-variants.{Link, SecondLink, Ter
 use Rattle.glyphs.specs.declared.types.Row.{Row}
 use Rattle.glyphs.specs.Cells.{allLines, isPresent}
 use Rattle.glyphs.specs.Characters.{blank}
-use Rattle.glyphs.specs.Inner.{cellsText}
+use Rattle.glyphs.specs.Drawing.{cellsText}
 use Rattle.glyphs.specs.Joins.{over}
 use Rattle.glyphs.specs.Row.{rowOf}
-use Rattle.message.specs.Message.{linesOf, firstLine, otherLines}
+use Rattle.message.specs.Message.{linesOf}
+use Rattle.message.specs.Inner.{firstLine, otherLines}
 use Rattle.output.specs.Output.{finish, textOf, lineMeasure, TextView, textViewOf, beginRow, Puts}
 use Rattle.text.specs.declared.prefix_lines_to_text.Drawn.{Drawn}
 use Rattle.text.specs.declared.prefix_lines_to_text.Plan.{Plan}

@@ -7,7 +7,7 @@ ghost use lib.Dec.{leb};
 ghost use lib.ListN.{length, take, replicate};
 ghost use Rattle.column.specs.Columns.{columnLimit};
 ghost use Rattle.glyphs.specs.Cells.{allLines};
-ghost use Rattle.glyphs.specs.Inner.{entry};
+ghost use Rattle.glyphs.specs.Drawing.{entry};
 ghost use Rattle.message.specs.Message.{messageLimit};
 ghost use Rattle.output.specs.Output.{queueLimit, textOf, textViewOf, Puts};
 ghost use Rattle.shaper.specs.Shaper.{heightLimit};

@@ -1,3 +1,4 @@
+-- The row call on a shaper of its own and the first entries of a list, as many as it has at most.
 use borrow.Author.Needs.{needs}
 use Rattle.lent.proofs.row_on.Statement.{statement}
 use Rattle.lent.proofs.row_on.Tie as tie

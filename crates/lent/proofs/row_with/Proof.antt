@@ -55,7 +55,7 @@ use Rattle.row_shape.proofs.RowAnswer as D
 use Rattle.row_shape.proofs.RowAnswer.Laws as D′
 use Rattle.render.proofs.render.Entry as T
 use Rattle.render.proofs.render.Entry.Laws as T′
-use Rattle.lent.specs.Lists.{listLimit}
+use Rattle.lent.specs.Inner.{listLimit}
 use Rattle.lent.proofs.LocalLaws.{at-local, IsThat, lends-local, local-back}
 use Rattle.lent.proofs.FrontLaws.{entry-vals, list-vals, list-val, IsList, array, slice, front-long, front-room, behind, front, array-in, array-out}
 use Rattle.lineage.proofs.row as call

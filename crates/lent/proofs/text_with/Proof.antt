@@ -62,7 +62,7 @@ use Rattle.text.proofs.graph_text_renderer.TextAnswer as D
 use Rattle.text.proofs.graph_text_renderer.TextAnswer.Laws as D′
 use Rattle.render.proofs.render.Entry as T
 use Rattle.render.proofs.render.Entry.Laws as T′
-use Rattle.lent.specs.Lists.{listLimit}
+use Rattle.lent.specs.Inner.{listLimit}
 use Rattle.lent.proofs.LocalLaws.{at-local, IsThat, lends-local, local-back}
 use Rattle.lent.proofs.FrontLaws.{entry-vals, list-vals, list-val, IsList, array, slice, front-long, front-room, behind, front, array-in, array-out}
 use Rattle.lineage.proofs.text as call

@@ -49,7 +49,7 @@ use denote.Exit.{yes}
 use Rattle.render.specs.declared.render.Entry.{Entry}
 use Rattle.render.specs.declared.render.Entries.{Entries}
 use Rattle.render.specs.Entries.{pushed, noEntries}
-use Rattle.lineage.specs.Copying.{copied}
+use Rattle.lineage.specs.Inner.{copied}
 use Rattle.lineage.proofs.CopyLaws.{none, copies}
 use Rattle.render.proofs.render.Entry as T
 use Rattle.render.proofs.render.Entry.Laws as T′

@@ -1,3 +1,4 @@
+-- Writes a number in decimal, if it has at most so many places, and gives their count.
 use mathlib.Core.Path.{refl, ap, _∙_}
 use mathlib.Core.List.{[], _∷_, _++_}
 use native.Mathlib.Omega.{arith}
@@ -79,12 +80,14 @@ write-decimal-same-length-2 t c = search needs
 
 write-decimal-returns-3 : (t : ℕ) → write-decimal-lts.Need-returns-3 (called t) (write-decimal-at t) write-decimal.Post
 write-decimal-returns-3 t c =
-    let a = c .before .before .before .before .before .before .before .before .args in
     let w = c .before .before .before .write-decimal in
-    let e = decimal-more (a .places) (a .n) (c .before .before .before .before .before .before .if1 .left) (c .before .before .before .before .before .if2 .left) in
+    let at-if2 = c .before .before .before .before .before in
+    let at-if1 = at-if2 .before in
+    let a = at-if1 .before .before .args in
+    let e = decimal-more (a .places) (a .n) (at-if1 .if1 .left) (at-if2 .if2 .left) in
     let l = length-append (decimalIn (a .places - 1) (a .n / 10)) ((0x30 + a .n % 10) ∷ []) in (
       rw e (omega (arith, w .ensures .0, l)),
-      omega (arith, w .ensures .1, c .before .before .before .before .before .before .if1 .left),
+      omega (arith, w .ensures .1, at-if1 .if1 .left),
       rw e (over-one (decimalIn (a .places - 1) (a .n / 10)) (a .out .now) (c .digit2 .result) (w .ensures .2) (w .ensures .0) (omega (arith, w .ensures .0, w .ensures .1))
           ∙ ap (λ (x : ℕ). over (decimalIn (a .places - 1) (a .n / 10) ++ (x ∷ [])) (a .out .now)) (c .digit2 .ensures)),
     )

@@ -48,11 +48,13 @@ same-length-3 c = search needs
 
 returns-3 : tie.Need-returns-3
 returns-3 c =
-    let w = c .before .before .before .before .before .before .before .before in
+    let at-refused3 = c .before .before in
+    let at-if3 = at-refused3 .before .before in
+    let w = at-if3 .before .before .before .before in
     let r = w .before .before .before .before .before in
     let m = r .before .before .before .before in
     let a = m .before .before .args in
-    room-stops (a .progress) (a .decoded) (a .out .now) (sym (m .is-mark .ensures) ∙ not-false _ (r .before .before .before .if1 .left)) (r .next-row-shape .result) (r .next-row-shape .ensures) (w .before .before .before .if2 .left) (w .write-listing .result) _ (w .write-listing .ensures) (c .before .before .before .before .if3 .taken) _ _ (c .before .before .refused3 .ensures)
+    room-stops (a .progress) (a .decoded) (a .out .now) (sym (m .is-mark .ensures) ∙ not-false _ (r .before .before .before .if1 .left)) (r .next-row-shape .result) (r .next-row-shape .ensures) (w .before .before .before .if2 .left) (w .write-listing .result) _ (w .write-listing .ensures) (at-if3 .if3 .taken) _ _ (at-refused3 .refused3 .ensures)
 
 next-requires : tie.Need-next-requires
 next-requires c κs = search needs
@@ -62,11 +64,12 @@ same-length-4 c = search needs
 
 returns-4 : tie.Need-returns-4
 returns-4 c =
-    let w = c .before .before .before .before .before .before .before in
+    let at-if3 = c .before .before .before in
+    let w = at-if3 .before .before .before .before in
     let r = w .before .before .before .before .before in
     let m = r .before .before .before .before in
     let a = m .before .before .args in
-    listing-goes (a .progress) (a .decoded) (a .out .now) (sym (m .is-mark .ensures) ∙ not-false _ (r .before .before .before .if1 .left)) (r .next-row-shape .result) (r .next-row-shape .ensures) (w .before .before .before .if2 .left) (w .write-listing .result) _ (w .write-listing .ensures) _ (c .next .ensures) (c .before .before .before .if3 .left)
+    listing-goes (a .progress) (a .decoded) (a .out .now) (sym (m .is-mark .ensures) ∙ not-false _ (r .before .before .before .if1 .left)) (r .next-row-shape .result) (r .next-row-shape .ensures) (w .before .before .before .if2 .left) (w .write-listing .result) _ (w .write-listing .ensures) _ (c .next .ensures) (at-if3 .if3 .left)
 
 pub listing-row-spec : {M : Type 1} → statement M
 listing-row-spec =

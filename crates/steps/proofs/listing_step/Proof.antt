@@ -1,3 +1,4 @@
+-- A step of the listing program, on the bytes that are left.
 use Rattle.steps.specs.Steps.{listingRow}
 use Rattle.steps.proofs.StepLaws.{step-undrawn, step-drawn}
 use borrow.Author.Needs.{needs}
@@ -18,9 +19,9 @@ same-length c = search needs
 
 returns : tie.Need-returns
 returns c =
-    let c5 = c .before .before .before .before .before in
-    let c8 = c5 .before .before .before in
-    step-undrawn listingRow (c8 .args .progress) (c8 .args .left .now) (c8 .args .out .now) (c5 .next-record .result) (c5 .next-record .ensures) _ _ (c .before .before .before .before .match .keys2) (c .before .before .without-record .ensures)
+    let read = c .before .before .before .before .before in
+    let a = read .before .before .before .args in
+    step-undrawn listingRow (a .progress) (a .left .now) (a .out .now) (read .next-record .result) (read .next-record .ensures) _ _ (c .before .before .before .before .match .keys2) (c .before .before .without-record .ensures)
 
 listing-row-requires : tie.Need-listing-row-requires
 listing-row-requires c κs = search needs
@@ -30,9 +31,11 @@ same-length-2 c = search needs
 
 returns-2 : tie.Need-returns-2
 returns-2 c =
-    let c7 = c .before .before .before .before .before .before .before in
-    let c10 = c7 .before .before .before in
-    step-drawn listingRow (c10 .args .progress) (c10 .args .left .now) (c10 .args .out .now) (c7 .next-record .result) (c7 .next-record .ensures) _ _ (c .before .before .before .before .before .enum-told .given .1) (c .before .before .listing-row .ensures)
+    let at-listing-row = c .before .before in
+    let matched = at-listing-row .before .before .before in
+    let read = matched .before .before in
+    let a = read .before .before .before .args in
+    step-drawn listingRow (a .progress) (a .left .now) (a .out .now) (read .next-record .result) (read .next-record .ensures) _ _ (matched .enum-told .given .1) (at-listing-row .listing-row .ensures)
 
 pub listing-step-spec : {M : Type 1} → statement M
 listing-step-spec =

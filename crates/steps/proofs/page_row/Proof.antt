@@ -12,7 +12,9 @@ part-write-next-text-start : tie.Need-part-write-next-text-start
 part-write-next-text-start c = search needs
 
 part-write-next-text-end : tie.Need-part-write-next-text-end
-part-write-next-text-end c = omega (arith, c .before .before .before .before .before .before .pre, message-long (c .before .before .before .before .before .before .args .decoded .message) _ (c .before .before .before .before .before .before .good .1 .0 .1 .1 .1 .1 .1 .0 .1 .0 .1))
+part-write-next-text-end c =
+    let start = c .before .before .before .before .before .before in
+    omega (arith, start .pre, message-long (start .args .decoded .message) _ (start .good .1 .0 .1 .1 .1 .1 .1 .0 .1 .0 .1))
 
 write-next-text-requires : tie.Need-write-next-text-requires
 write-next-text-requires c κs = search needs
@@ -25,9 +27,11 @@ same-length c = search needs
 
 returns : tie.Need-returns
 returns c =
-    let c8 = c .before .before .before .before .before .before .before .before in
-    let c17 = c8 .before .before .before .before .before .before .before .before .before in
-    page-stops (c17 .args .progress) (c17 .args .decoded) (c17 .args .out .now) _ (front-is (c17 .args .decoded .«message_length») (c17 .args .decoded .message)) (c8 .write-next-text .result) _ (c8 .write-next-text .ensures) (c .before .before .before .before .if1 .taken) _ _ (c .before .before .refused .ensures)
+    let at-refused = c .before .before in
+    let at-if1 = at-refused .before .before in
+    let w = at-if1 .before .before .before .before in
+    let a = w .before .before .before .before .before .before .before .before .before .args in
+    page-stops (a .progress) (a .decoded) (a .out .now) _ (front-is (a .decoded .«message_length») (a .decoded .message)) (w .write-next-text .result) _ (w .write-next-text .ensures) (at-if1 .if1 .taken) _ _ (at-refused .refused .ensures)
 
 next-requires : tie.Need-next-requires
 next-requires c κs = search needs
@@ -37,9 +41,10 @@ same-length-2 c = search needs
 
 returns-2 : tie.Need-returns-2
 returns-2 c =
-    let c7 = c .before .before .before .before .before .before .before in
-    let c16 = c7 .before .before .before .before .before .before .before .before .before in
-    page-goes (c16 .args .progress) (c16 .args .decoded) (c16 .args .out .now) _ (front-is (c16 .args .decoded .«message_length») (c16 .args .decoded .message)) (c7 .write-next-text .result) _ (c7 .write-next-text .ensures) _ (c .next .ensures) (c .before .before .before .if1 .left)
+    let at-if1 = c .before .before .before in
+    let w = at-if1 .before .before .before .before in
+    let a = w .before .before .before .before .before .before .before .before .before .args in
+    page-goes (a .progress) (a .decoded) (a .out .now) _ (front-is (a .decoded .«message_length») (a .decoded .message)) (w .write-next-text .result) _ (w .write-next-text .ensures) _ (c .next .ensures) (at-if1 .if1 .left)
 
 pub page-row-spec : {M : Type 1} → statement M
 page-row-spec =

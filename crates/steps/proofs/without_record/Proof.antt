@@ -1,3 +1,4 @@
+-- A step that draws no record: the records have ended, or the bytes were refused.
 use Rattle.steps.proofs.StepLaws.{no-bytes}
 use borrow.Author.Needs.{needs}
 use Rattle.steps.proofs.without_record.Statement.{statement}
@@ -19,7 +20,10 @@ same-length : tie.Need-same-length
 same-length c = search needs
 
 returns : tie.Need-returns
-returns c = rw (c .before .before .before .before .before .outcome .given .1) (c .before .before .refused .ensures)
+returns c =
+    let at-refused = c .before .before in
+    let at-outcome = at-refused .before .before .before in
+    rw (at-outcome .outcome .given .1) (at-refused .refused .ensures)
 
 returns-2 : tie.Need-returns-2
 returns-2 c = rw (c .enum-told .given .1) (no-bytes (c .before .before .before .args .progress) (c .before .before .before .args .out .now))

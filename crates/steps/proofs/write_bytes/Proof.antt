@@ -1,3 +1,4 @@
+-- Writes some bytes, and gives their count.
 use mathlib.Core.Path.{_≡_, refl}
 use Prim.Native.Nat.{_≤_, _-_}
 use native.Mathlib.Omega.{arith}

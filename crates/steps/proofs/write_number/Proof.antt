@@ -1,3 +1,4 @@
+-- Writes some words and a number behind them, and gives the count of their bytes.
 use native.Mathlib.Omega.{arith}
 use lib.ListN.{length-append}
 use Rattle.glyphs.proofs.OverLaws.{part-written}
@@ -29,9 +30,11 @@ same-length c = search needs
 
 returns : tie.Need-returns
 returns c =
-    let a = c .before .before .before .before .before .before .before .before .before .before .args in
-    let b = c .before .before .before .before .before .before .write-bytes in
-    let w = c .before .before .write-decimal in
+    let at-write-decimal = c .before .before in
+    let at-write-bytes = at-write-decimal .before .before .before .before in
+    let a = at-write-bytes .before .before .before .before .args in
+    let b = at-write-bytes .write-bytes in
+    let w = at-write-decimal .write-decimal in
     (omega (arith, b .ensures .0, w .ensures .0, length-append (a .words .now) (decimalIn places (a .n))), omega (arith, b .ensures .0, w .ensures .1), part-written (a .words .now) (decimalIn places (a .n)) _ (b .ensures .1) (b .ensures .0) (w .ensures .2))
 
 pub write-number-spec : {M : Type 1} → statement M

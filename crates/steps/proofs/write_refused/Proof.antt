@@ -1,3 +1,4 @@
+-- Writes the line that says what was refused, if there is room for it, and gives the count of its bytes.
 use mathlib.Core.Path.{refl}
 use native.Mathlib.Omega.{arith}
 use Rattle.steps.proofs.LineBytes.{no-line, line-length, line-written, line-same}
@@ -42,17 +43,22 @@ add-result c = search needs
 
 same-length : tie.Need-same-length
 same-length c =
-    let a = c .before .before .before .before .before .before .before .before .before .before .before .before .args in
-    let f = c .before .before .before .before .before .before .before .write-number in
-    let w = c .before .before .write-number2 in
+    let at-write-number2 = c .before .before in
+    let at-write-number = at-write-number2 .before .before .before .before .before in
+    let a = at-write-number .before .before .before .before .before .args in
+    let f = at-write-number .write-number in
+    let w = at-write-number2 .write-number2 in
     line-same (a .out .now) (f .last .0) (w .last .0) (f .result) (w .result) 0x0a (w .kept .0) (omega (arith, f .ensures .1, f .kept .0)) (f .kept .0)
 
 returns-2 : tie.Need-returns-2
 returns-2 c =
-    let a = c .before .before .before .before .before .before .before .before .before .before .before .before .args in
-    let f = c .before .before .before .before .before .before .before .write-number in
-    let w = c .before .before .write-number2 in
-    (omega (arith, f .ensures .0, w .ensures .0, line-length (a .out .now) (a .refusal) (a .number) (c .before .before .before .before .before .before .before .before .before .before .if1 .left)), line-written (a .out .now) (a .refusal) (a .number) (c .before .before .before .before .before .before .before .before .before .before .if1 .left) _ (w .last .0) (f .result) (w .result) (f .ensures .2) (f .ensures .0) (w .ensures .0) (f .ensures .1) (w .ensures .1) (w .ensures .2))
+    let at-write-number2 = c .before .before in
+    let at-write-number = at-write-number2 .before .before .before .before .before in
+    let at-if1 = at-write-number .before .before .before in
+    let a = at-if1 .before .before .args in
+    let f = at-write-number .write-number in
+    let w = at-write-number2 .write-number2 in
+    (omega (arith, f .ensures .0, w .ensures .0, line-length (a .out .now) (a .refusal) (a .number) (at-if1 .if1 .left)), line-written (a .out .now) (a .refusal) (a .number) (at-if1 .if1 .left) _ (w .last .0) (f .result) (w .result) (f .ensures .2) (f .ensures .0) (w .ensures .0) (f .ensures .1) (w .ensures .1) (w .ensures .2))
 
 pub write-refused-spec : {M : Type 1} → statement M
 write-refused-spec =

@@ -86,18 +86,24 @@ same-length-2 c = search needs
 
 returns-2 : tie.Need-returns-2 Inv-loop μ-loop
 returns-2 c =
-    let call = c .before .before .before .before .before .before .before .before .before .before in
+    let at-write-shape = c .before .before .before in
+    let at-if2 = at-write-shape .before .before in
+    let at-if1 = at-if2 .before .before .before in
+    let call = at-if1 .before .before in
     let read = call .before .before in
     let l = read .before .before .before .loop in
-    kept-full (l .inv) (read .before .before .loop-test .taken) (read .id-at .ensures) (call .before .entries-of .ensures) (call .next-row-shape .ensures) (c .before .before .before .before .before .before .before .before .if1 .left) (c .before .before .before .before .before .if2 .taken) (c .before .before .before .write-shape .ensures) (c .if3 .taken)
+    kept-full (l .inv) (read .before .before .loop-test .taken) (read .id-at .ensures) (call .before .entries-of .ensures) (call .next-row-shape .ensures) (at-if1 .if1 .left) (at-if2 .if2 .taken) (at-write-shape .write-shape .ensures) (c .if3 .taken)
 
 add-from : tie.Need-add-from Inv-loop μ-loop
 add-from c =
-    let call = c .before .before .before .before .before .before .before .before .before .before in
+    let at-write-shape = c .before .before .before in
+    let at-if2 = at-write-shape .before .before in
+    let at-if1 = at-if2 .before .before .before in
+    let call = at-if1 .before .before in
     let read = call .before .before in
     let l = read .before .before .before .loop in
     let start = read .before .before .before .before .before .before .before .before in
-    let f = kept-fits (l .inv) (read .before .before .loop-test .taken) (read .id-at .ensures) (call .before .entries-of .ensures) (call .next-row-shape .ensures) (c .before .before .before .before .before .before .before .before .if1 .left) (c .before .before .before .before .before .if2 .taken) (c .before .before .before .write-shape .ensures) (c .if3 .left) in
+    let f = kept-fits (l .inv) (read .before .before .loop-test .taken) (read .id-at .ensures) (call .before .entries-of .ensures) (call .next-row-shape .ensures) (at-if1 .if1 .left) (at-if2 .if2 .taken) (at-write-shape .write-shape .ensures) (c .if3 .left) in
     let k = start .good .1 .1 .0 in
     record { fits = omega (arith, f, l .inv .long, k) }
 
@@ -109,11 +115,13 @@ same-length-3 c = search needs
 
 returns-3 : tie.Need-returns-3 Inv-loop μ-loop
 returns-3 c =
-    let call = c .before .before .before .before .before .before .before in
+    let at-if2 = c .before .before in
+    let at-if1 = at-if2 .before .before .before in
+    let call = at-if1 .before .before in
     let read = call .before .before in
     let l = read .before .before .before .loop in
     let cells = call .next-row-shape .ok .1 .1 .1 .0 .1 .1 .1 .1 .1 .1 .1 .1 .1 .1 .1 .1 .0 in
-    node-full (l .inv) (read .before .before .loop-test .taken) (read .id-at .ensures) (call .before .entries-of .ensures) (call .next-row-shape .ensures) (c .before .before .before .before .before .if1 .left) (c .before .before .if2 .left) (cells-long (call .next-row-shape .result .shape .cells) (cells .1 .0 .1)) blankCell (c .before .if4 .taken) (c .if5 .taken)
+    node-full (l .inv) (read .before .before .loop-test .taken) (read .id-at .ensures) (call .before .entries-of .ensures) (call .next-row-shape .ensures) (at-if1 .if1 .left) (at-if2 .if2 .left) (cells-long (call .next-row-shape .result .shape .cells) (cells .1 .0 .1)) blankCell (c .before .if4 .taken) (c .if5 .taken)
 
 mul-cell-bytes : tie.Need-mul-cell-bytes Inv-loop μ-loop
 mul-cell-bytes c = search needs
@@ -144,22 +152,27 @@ loop-less c = search needs
 
 loop-again : tie.Need-loop-again Inv-loop μ-loop
 loop-again c =
-    let call = c .before .before .before .before .before .before .before .before .before .before in
+    let at-write-shape = c .before .before .before in
+    let at-if2 = at-write-shape .before .before in
+    let at-if1 = at-if2 .before .before .before in
+    let call = at-if1 .before .before in
     let read = call .before .before in
     let l = read .before .before .before .loop in
-    kept-goes (l .inv) (read .before .before .loop-test .taken) (read .id-at .ensures) (call .before .entries-of .ensures) (call .next-row-shape .ensures) (c .before .before .before .before .before .before .before .before .if1 .left) (c .before .before .before .before .before .if2 .taken) (c .before .before .before .write-shape .ensures) (c .if3 .left)
+    kept-goes (l .inv) (read .before .before .loop-test .taken) (read .id-at .ensures) (call .before .entries-of .ensures) (call .next-row-shape .ensures) (at-if1 .if1 .left) (at-if2 .if2 .taken) (at-write-shape .write-shape .ensures) (c .if3 .left)
 
 loop-less-2 : tie.Need-loop-less-2 Inv-loop μ-loop
 loop-less-2 c = search needs
 
 loop-again-2 : tie.Need-loop-again-2 Inv-loop μ-loop
 loop-again-2 c =
-    let call = c .before .before .before .before .before .before .before .before .before .before .before .before .before .before in
+    let at-write-bytes = c .before .before in
+    let at-cell-bytes = at-write-bytes .before .before .before in
+    let room = at-cell-bytes .before .before in
+    let call = room .before .before .before .before .before .before .before in
     let read = call .before .before in
     let l = read .before .before .before .loop in
     let cells = call .next-row-shape .ok .1 .1 .1 .0 .1 .1 .1 .1 .1 .1 .1 .1 .1 .1 .1 .1 .0 in
-    let room = c .before .before .before .before .before .before .before in
-    node-goes (l .inv) (read .before .before .loop-test .taken) (read .id-at .ensures) (call .before .entries-of .ensures) (call .next-row-shape .ensures) (room .before .before .before .before .before .if1 .left) (room .before .before .if2 .left) (cells-long (call .next-row-shape .result .shape .cells) (cells .1 .0 .1)) _ (room .before .if4 .taken) (room .if5 .left) (c .before .before .before .before .before .cell-bytes .ensures) (c .before .before .write-bytes .ensures)
+    node-goes (l .inv) (read .before .before .loop-test .taken) (read .id-at .ensures) (call .before .entries-of .ensures) (call .next-row-shape .ensures) (room .before .before .before .before .before .if1 .left) (room .before .before .if2 .left) (cells-long (call .next-row-shape .result .shape .cells) (cells .1 .0 .1)) _ (room .before .if4 .taken) (room .if5 .left) (at-cell-bytes .cell-bytes .ensures) (at-write-bytes .write-bytes .ensures)
 
 loop-less-3 : tie.Need-loop-less-3 Inv-loop μ-loop
 loop-less-3 c = search needs

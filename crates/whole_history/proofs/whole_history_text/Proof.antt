@@ -87,11 +87,12 @@ returns c =
 
 add-from : tie.Need-add-from Inv-loop μ-loop
 add-from c =
-    let call = c .before .before .before .before .before .before .before .before in
+    let at-if1 = c .before .before .before .before in
+    let call = at-if1 .before .before .before .before in
     let read = call .before .before .before .before in
     let top = read .before .before .before in
     let l = top .loop in
-    let f = text-fits (l .inv) (read .before .before .loop-test .taken) (read .id-at .ensures) (call .before .before .before .entries-of .ensures) (call .write-next-text .ensures) refl (call .write-next-text .kept .1 .1 .1 .1 .1 .1 .1 .0) (c .before .before .before .before .if1 .left) in
+    let f = text-fits (l .inv) (read .before .before .loop-test .taken) (read .id-at .ensures) (call .before .before .before .entries-of .ensures) (call .write-next-text .ensures) refl (call .write-next-text .kept .1 .1 .1 .1 .1 .1 .1 .0) (at-if1 .if1 .left) in
     let start = top .before .before .before .before .before .before .before .before in
     let k = start .good .1 .1 .1 .1 .0 in
     record { fits = omega (arith, f, l .inv .long, k) }
@@ -101,22 +102,24 @@ loop-less c = search needs
 
 loop-again : tie.Need-loop-again Inv-loop μ-loop
 loop-again c =
-    let call = c .before .before .before .before .before .before .before .before in
+    let at-if1 = c .before .before .before .before in
+    let call = at-if1 .before .before .before .before in
     let read = call .before .before .before .before in
     let top = read .before .before .before in
     let l = top .loop in
-    text-goes (l .inv) (read .before .before .loop-test .taken) (read .id-at .ensures) (call .before .before .before .entries-of .ensures) (call .write-next-text .ensures) refl _ (call .write-next-text .kept .1 .1 .1 .1 .1 .1 .1 .0) (c .before .before .before .before .if1 .left) (place-kept _ (l .from) _ (c .before .if2 .taken)) (omega arith)
+    text-goes (l .inv) (read .before .before .loop-test .taken) (read .id-at .ensures) (call .before .before .before .entries-of .ensures) (call .write-next-text .ensures) refl _ (call .write-next-text .kept .1 .1 .1 .1 .1 .1 .1 .0) (at-if1 .if1 .left) (place-kept _ (l .from) _ (c .before .if2 .taken)) (omega arith)
 
 loop-less-2 : tie.Need-loop-less-2 Inv-loop μ-loop
 loop-less-2 c = search needs
 
 loop-again-2 : tie.Need-loop-again-2 Inv-loop μ-loop
 loop-again-2 c =
-    let call = c .before .before .before .before .before .before .before in
+    let at-if1 = c .before .before .before in
+    let call = at-if1 .before .before .before .before in
     let read = call .before .before .before .before in
     let top = read .before .before .before in
     let l = top .loop in
-    text-goes (l .inv) (read .before .before .loop-test .taken) (read .id-at .ensures) (call .before .before .before .entries-of .ensures) (call .write-next-text .ensures) refl _ (call .write-next-text .kept .1 .1 .1 .1 .1 .1 .1 .0) (c .before .before .before .if1 .left) (place-left _ (l .from) _ (c .if2 .left)) (omega arith)
+    text-goes (l .inv) (read .before .before .loop-test .taken) (read .id-at .ensures) (call .before .before .before .entries-of .ensures) (call .write-next-text .ensures) refl _ (call .write-next-text .kept .1 .1 .1 .1 .1 .1 .1 .0) (at-if1 .if1 .left) (place-left _ (l .from) _ (c .if2 .left)) (omega arith)
 
 same-length-2 : tie.Need-same-length-2 Inv-loop μ-loop
 same-length-2 c = search needs

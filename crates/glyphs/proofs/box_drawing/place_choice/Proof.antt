@@ -2,7 +2,7 @@
 use borrow.Author.Needs.{needs}
 use Rattle.glyphs.proofs.box_drawing.place_choice.Statement.{statement}
 use Rattle.glyphs.proofs.box_drawing.place_choice.Tie as tie
-use Rattle.glyphs.specs.Inner.{entry}
+use Rattle.glyphs.specs.Drawing.{entry}
 use Rattle.glyphs.proofs.BoxLaws.{number-bytes}
 use Rattle.glyphs.proofs.DrawLaws.{glyph-placed}
 use Rattle.glyphs.proofs.TableLaws.{no-entry}

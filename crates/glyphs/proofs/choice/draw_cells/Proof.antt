@@ -6,7 +6,7 @@ use mathlib.Core.Path.{_≡_, refl}
 use native.Mathlib.Omega.{arith}
 use lib.ListN.{length}
 use Rattle.column.specs.Columns.{columnLimit}
-use Rattle.glyphs.specs.Inner.{entry}
+use Rattle.glyphs.specs.Drawing.{entry}
 use Rattle.glyphs.proofs.DrawLaws.{Drawn-front, draw-next, draw-all}
 use Rattle.glyphs.proofs.TableLaws.{entry-short, cell-short}
 use borrow.Author.Needs.{needs}

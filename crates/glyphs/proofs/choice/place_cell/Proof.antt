@@ -2,7 +2,7 @@
 use borrow.Author.Needs.{needs}
 use Rattle.glyphs.proofs.choice.place_cell.Statement.{statement}
 use Rattle.glyphs.proofs.choice.place_cell.Tie as tie
-use Rattle.glyphs.specs.Inner.{entry, cellBytes}
+use Rattle.glyphs.specs.Drawing.{entry, cellBytes}
 use Rattle.glyphs.specs.Cells.{bytesOf}
 use Rattle.glyphs.proofs.BoxLaws.{box-bytes}
 use Rattle.glyphs.proofs.DrawLaws.{glyph-placed}

@@ -2,7 +2,7 @@
 use mathlib.Core.Path.{sym, _∙_}
 use native.Mathlib.Omega.{arith}
 use lib.ListN.{take, length-take}
-use Rattle.glyphs.specs.Inner.{entry}
+use Rattle.glyphs.specs.Drawing.{entry}
 use Rattle.glyphs.proofs.CellLaws.{cells-short}
 use Rattle.glyphs.proofs.TableLaws.{entry-short}
 use Rattle.prefix_lines.proofs.LineLaws.{frame-small, present-length, absent}

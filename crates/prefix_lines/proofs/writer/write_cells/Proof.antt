@@ -3,7 +3,7 @@ use Prim.Native.Nat.{_-_}
 use mathlib.Core.Path.{_≡_}
 use native.Mathlib.Omega.{arith}
 use lib.ListN.{take, drop, length-take}
-use Rattle.glyphs.specs.Inner.{entry, cellsText}
+use Rattle.glyphs.specs.Drawing.{entry, cellsText}
 use Rattle.glyphs.proofs.CellLaws.{cells-short}
 use Rattle.glyphs.proofs.TableLaws.{entry-short}
 use borrow.Author.Needs.{needs}

@@ -5,7 +5,7 @@ use mathlib.Core.Bool.{true}
 use mathlib.Core.List.{_++_}
 use native.Mathlib.Omega.{arith}
 use lib.ListN.{length, take, drop}
-use Rattle.glyphs.specs.Inner.{entry, cellsText}
+use Rattle.glyphs.specs.Drawing.{entry, cellsText}
 use Rattle.glyphs.specs.Cells.{isPresent}
 use Rattle.glyphs.proofs.OverLaws.{part-room, part-length, part-written}
 use Rattle.prefix_lines.specs.Inner.{opening, frameLength}

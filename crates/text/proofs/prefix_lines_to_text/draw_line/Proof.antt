@@ -1,5 +1,6 @@
+-- Draws a line that is written so often, and gives the count of its bytes.
 use native.Mathlib.Omega.{arith}
-use Rattle.glyphs.specs.Inner.{entry}
+use Rattle.glyphs.specs.Drawing.{entry}
 use Rattle.glyphs.proofs.TableLaws.{entry-short}
 use Rattle.text.specs.Inner.{prefixText}
 use Rattle.text.proofs.TextLineLaws.{prefix-short}
@@ -19,9 +20,11 @@ same-length c = search needs
 returns-2 : tie.Need-returns-2
 unfolding prefixText
 returns-2 c =
-    let a = c .before .before .before .before .before .before .before .before .args in
-    let d = c .before .before .draw-cells in
-    let e = c .before .before .before .before .before .before .before .before .pre .1 in
+    let at-draw-cells = c .before .before in
+    let start = at-draw-cells .before .before .before .before .before .before in
+    let a = start .args in
+    let d = at-draw-cells .draw-cells in
+    let e = start .pre .1 in
     (omega (arith, d .ensures .count (omega arith), prefix-short (entry (a .table .now)) (a .drawn) (a .line) (entry-short (a .table .now))), λ h. d .ensures .bytes (omega arith))
 
 pub draw-line-spec : {M : Type 1} → statement M

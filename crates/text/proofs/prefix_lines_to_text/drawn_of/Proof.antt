@@ -1,3 +1,4 @@
+-- What the lines of a shape are drawn from.
 use mathlib.Core.Path.{refl}
 use borrow.Author.Needs.{needs}
 use Rattle.text.proofs.prefix_lines_to_text.drawn_of.Statement.{statement}

@@ -1,3 +1,4 @@
+-- Whether an output has room for all lines; they are counted only where it is shorter than they can be at most.
 use mathlib.Core.Path.{refl, ap}
 use Prim.Native.Nat.{ℕ}
 use lib.Dec.{leb}
@@ -13,8 +14,9 @@ most-bytes-requires c κs = search needs
 
 returns : tie.Need-returns
 returns c =
-    let a = c .before .before .before .before .args in
-    (room-there (a .table .now) (a .drawn) (a .plan) (a .message .now) (a .state) (a .separator-line) (c .before .before .before .before .pre .1) (queue-long (a .state .«queued_pad_line») _ (c .before .before .before .before .good .1 .1 .1 .1 .1 .0 .1 .1 .0 .1 .0 .1)) _ _ (c .before .most-bytes .ensures) (c .if1 .taken), refl)
+    let start = c .before .before .before .before in
+    let a = start .args in
+    (room-there (a .table .now) (a .drawn) (a .plan) (a .message .now) (a .state) (a .separator-line) (start .pre .1) (queue-long (a .state .«queued_pad_line») _ (start .good .1 .1 .1 .1 .1 .0 .1 .1 .0 .1 .0 .1)) _ _ (c .before .most-bytes .ensures) (c .if1 .taken), refl)
 
 sub-put-text : tie.Need-sub-put-text
 sub-put-text c = search needs
@@ -33,8 +35,9 @@ same-length c = search needs
 
 returns-2 : tie.Need-returns-2
 returns-2 c =
-    let a = c .before .before .before .before .before .before .before .before .before .args in
-    (ap (λ (n : ℕ). leb n (length (a .out .now))) (c .before .before .before .put-text .ensures .count), empty-front (c .before .before .before .put-text .last .0) (a .out .now) (c .before .before .before .put-text .kept .0))
+    let at-put-text = c .before .before .before in
+    let a = at-put-text .before .before .before .before .before .before .args in
+    (ap (λ (n : ℕ). leb n (length (a .out .now))) (at-put-text .put-text .ensures .count), empty-front (at-put-text .put-text .last .0) (a .out .now) (at-put-text .put-text .kept .0))
 
 pub has-room-spec : {M : Type 1} → statement M
 has-room-spec =

@@ -1,3 +1,4 @@
+-- What a row's lines can have at most: of each line the cells, a blank and the end, the message, and what stands above the row.
 use Prim.Native.Nat.{_+_, _*_, _≤_}
 use native.Mathlib.Nat.{mul-le-mul}
 use native.Mathlib.Omega.{arith}

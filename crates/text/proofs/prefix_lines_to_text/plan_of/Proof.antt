@@ -1,3 +1,4 @@
+-- The plan of a row with so many message lines, at a minimum row height.
 use mathlib.Core.Path.{refl}
 use borrow.Author.Needs.{needs}
 use Rattle.text.proofs.prefix_lines_to_text.plan_of.Statement.{statement}

@@ -1,3 +1,4 @@
+-- Puts a row's lines with its message from `at` on, each drawn once.
 use mathlib.Core.Path.{_≡_, refl, _∙_}
 use mathlib.Core.List.{List, map}
 use Prim.Native.Nat.{ℕ, _≤_, _-_}
@@ -6,7 +7,7 @@ use lib.ListN.{length, take, drop, length-take}
 use borrow.Author.Needs.{needs}
 use Rattle.glyphs.specs.declared.types.Line.the-variants.{PostAncestry}
 use Rattle.glyphs.specs.Cells.{allLines}
-use Rattle.glyphs.specs.Inner.{entry}
+use Rattle.glyphs.specs.Drawing.{entry}
 use Rattle.text.specs.Inner.{prefixText, spread, lineTimes}
 use Rattle.text.proofs.RepeatLaws.{Putting, spread-more, spread-bound, repeated-short, row-none, plan-short}
 use Rattle.text.proofs.prefix_lines_to_text.put_row.Statement.{statement}
@@ -35,13 +36,18 @@ slice-aggregate-draw-line : tie.Need-slice-aggregate-draw-line Inv-loop μ-loop
 slice-aggregate-draw-line c = search needs
 
 draw-line-requires : tie.Need-draw-line-requires Inv-loop μ-loop
-draw-line-requires c κs = (c .before .before .before .before .before .before .before .before .pre .0, c .before .before .before .before .loop .inv .1)
+draw-line-requires c κs =
+    let at-loop = c .before .before .before .before in
+    let start = at-loop .before .before .before .before in
+    (start .pre .0, at-loop .loop .inv .1)
 
 add-put-repeated : tie.Need-add-put-repeated Inv-loop μ-loop
 add-put-repeated c =
-    let a = c .before .before .before .before .before .before .before .before .before .before .before .args in
-    let l = c .before .before .before .before .before .before .before .loop in
-    omega (arith, c .before .before .before .before .before .before .before .before .before .before .before .pre .3, spread-bound (prefixText (entry (a .table .now)) (a .drawn)) (lineTimes (a .plan) (a .drawn .renderer) (a .drawn .row)) allLines (l .k) (a .message .now) (a .at) (a .out .now) (l .out) _ (l .inv .2) (plan-short (a .plan) (a .drawn .renderer) (a .drawn .row) (c .before .before .before .before .before .before .before .before .before .before .before .pre .2)))
+    let at-loop = c .before .before .before .before .before .before .before in
+    let start = at-loop .before .before .before .before in
+    let a = start .args in
+    let l = at-loop .loop in
+    omega (arith, start .pre .3, spread-bound (prefixText (entry (a .table .now)) (a .drawn)) (lineTimes (a .plan) (a .drawn .renderer) (a .drawn .row)) allLines (l .k) (a .message .now) (a .at) (a .out .now) (l .out) _ (l .inv .2) (plan-short (a .plan) (a .drawn .renderer) (a .drawn .row) (start .pre .2)))
 
 sub-put-repeated : tie.Need-sub-put-repeated Inv-loop μ-loop
 sub-put-repeated c = search needs
@@ -54,16 +60,27 @@ part-put-repeated-end c = omega (arith, c .before .before .before .draw-line .en
 
 put-repeated-requires : tie.Need-put-repeated-requires Inv-loop μ-loop
 put-repeated-requires c κs =
-    let a = c .before .before .before .before .before .before .before .before .before .before .before .before .before .args in
-    let l = c .before .before .before .before .before .before .before .before .before .loop in
-    ((omega (arith, c .before .before .before .before .draw-line .ensures .0, length-take (c .before .before .before .before .draw-line .result - 0) (drop 0 (c .before .before .before .before .draw-line .last .0)))), l .inv .2 .few, l .inv .2 .rows .within, rw (c .before .before .before .before .before .before .times .ensures) (plan-short (a .plan) (a .drawn .renderer) (a .drawn .row) (c .before .before .before .before .before .before .before .before .before .before .before .before .before .pre .2) (c .before .before .before .before .before .before .before .line-at .result)), omega (arith, c .before .before .before .before .before .before .before .before .before .before .before .before .before .pre .3, spread-bound (prefixText (entry (a .table .now)) (a .drawn)) (lineTimes (a .plan) (a .drawn .renderer) (a .drawn .row)) allLines (l .k) (a .message .now) (a .at) (a .out .now) (l .out) _ (l .inv .2) (plan-short (a .plan) (a .drawn .renderer) (a .drawn .row) (c .before .before .before .before .before .before .before .before .before .before .before .before .before .pre .2))))
+    let at-draw-line = c .before .before .before .before in
+    let at-times = at-draw-line .before .before in
+    let at-line-at = at-times .before in
+    let at-loop = at-line-at .before .before in
+    let start = at-loop .before .before .before .before in
+    let a = start .args in
+    let l = at-loop .loop in
+    ((omega (arith, at-draw-line .draw-line .ensures .0, length-take (at-draw-line .draw-line .result - 0) (drop 0 (at-draw-line .draw-line .last .0)))), l .inv .2 .few, l .inv .2 .rows .within, rw (at-times .times .ensures) (plan-short (a .plan) (a .drawn .renderer) (a .drawn .row) (start .pre .2) (at-line-at .line-at .result)), omega (arith, start .pre .3, spread-bound (prefixText (entry (a .table .now)) (a .drawn)) (lineTimes (a .plan) (a .drawn .renderer) (a .drawn .row)) allLines (l .k) (a .message .now) (a .at) (a .out .now) (l .out) _ (l .inv .2) (plan-short (a .plan) (a .drawn .renderer) (a .drawn .row) (start .pre .2))))
 
 add-length : tie.Need-add-length Inv-loop μ-loop
 add-length c =
-    let a = c .before .before .before .before .before .before .before .before .before .before .before .before .before .before .before .before .before .args in
-    let l = c .before .before .before .before .before .before .before .before .before .before .before .before .before .loop in
-    let n : c .before .before .before .before .before .before .before .before .before .before .times .result ≤ 512 = rw (c .before .before .before .before .before .before .before .before .before .before .times .ensures) (plan-short (a .plan) (a .drawn .renderer) (a .drawn .row) (c .before .before .before .before .before .before .before .before .before .before .before .before .before .before .before .before .before .pre .2) (c .before .before .before .before .before .before .before .before .before .before .before .line-at .result)) in
-    omega (arith, spread-bound (prefixText (entry (a .table .now)) (a .drawn)) (lineTimes (a .plan) (a .drawn .renderer) (a .drawn .row)) allLines (l .k) (a .message .now) (a .at) (a .out .now) (l .out) _ (l .inv .2) (plan-short (a .plan) (a .drawn .renderer) (a .drawn .row) (c .before .before .before .before .before .before .before .before .before .before .before .before .before .before .before .before .before .pre .2)), repeated-short _ (a .message .now) (omega (arith, c .before .before .before .before .before .before .before .before .draw-line .ensures .0, length-take (c .before .before .before .before .before .before .before .before .draw-line .result - 0) (drop 0 (c .before .before .before .before .before .before .before .before .draw-line .last .0)))) (l .inv .2 .few) (c .before .before .before .before .before .before .before .before .before .before .times .result) n _ _ _ _ _ (c .before .before .before .put-repeated .ensures))
+    let at-put-repeated = c .before .before .before in
+    let at-draw-line = at-put-repeated .before .before .before .before .before in
+    let at-times = at-draw-line .before .before in
+    let at-line-at = at-times .before in
+    let at-loop = at-line-at .before .before in
+    let start = at-loop .before .before .before .before in
+    let a = start .args in
+    let l = at-loop .loop in
+    let n : at-times .times .result ≤ 512 = rw (at-times .times .ensures) (plan-short (a .plan) (a .drawn .renderer) (a .drawn .row) (start .pre .2) (at-line-at .line-at .result)) in
+    omega (arith, spread-bound (prefixText (entry (a .table .now)) (a .drawn)) (lineTimes (a .plan) (a .drawn .renderer) (a .drawn .row)) allLines (l .k) (a .message .now) (a .at) (a .out .now) (l .out) _ (l .inv .2) (plan-short (a .plan) (a .drawn .renderer) (a .drawn .row) (start .pre .2)), repeated-short _ (a .message .now) (omega (arith, at-draw-line .draw-line .ensures .0, length-take (at-draw-line .draw-line .result - 0) (drop 0 (at-draw-line .draw-line .last .0)))) (l .inv .2 .few) (at-times .times .result) n _ _ _ _ _ (at-put-repeated .put-repeated .ensures))
 
 greater-requires : tie.Need-greater-requires Inv-loop μ-loop
 greater-requires c κs = search needs
@@ -76,14 +93,20 @@ loop-less c = search needs
 
 loop-again : tie.Need-loop-again Inv-loop μ-loop
 loop-again c =
-    let a = c .before .before .before .before .before .before .before .before .before .before .before .before .before .before .before .before .before .before .args in
-    let l = c .before .before .before .before .before .before .before .before .before .before .before .before .before .before .loop in
-    let d = c .before .before .before .before .before .before .before .before .before .draw-line in
-    let w = c .before .before .before .before .put-repeated in
+    let at-put-repeated = c .before .before .before .before in
+    let at-draw-line = at-put-repeated .before .before .before .before .before in
+    let at-times = at-draw-line .before .before in
+    let at-line-at = at-times .before in
+    let at-loop-test = at-line-at .before in
+    let at-loop = at-loop-test .before in
+    let a = at-loop .before .before .before .before .args in
+    let l = at-loop .loop in
+    let d = at-draw-line .draw-line in
+    let w = at-put-repeated .put-repeated in
     let x : List ℕ = take (d .result - 0) (drop 0 (d .last .0)) in
     let z : d .result - 0 ≡ d .result = omega arith in
-    let t = c .before .before .before .before .before .before .before .before .before .before .before .before .before .loop-test .taken in
-    (omega (arith, t), d .kept .0 ∙ l .inv .1, spread-more (prefixText (entry (a .table .now)) (a .drawn)) (lineTimes (a .plan) (a .drawn .renderer) (a .drawn .row)) allLines (l .k) (a .message .now) (a .at) (a .out .now) (l .out) _ (l .inv .2) PostAncestry (omega (arith, t)) (c .before .before .before .before .before .before .before .before .before .before .before .before .line-at .result) (c .before .before .before .before .before .before .before .before .before .before .before .times .result) (c .before .before .before .before .before .before .before .before .before .before .before .before .line-at .ensures) (c .before .before .before .before .before .before .before .before .before .before .before .times .ensures) x (omega (arith, c .before .before .before .before .before .before .before .before .before .draw-line .ensures .0, length-take (c .before .before .before .before .before .before .before .before .before .draw-line .result - 0) (drop 0 (c .before .before .before .before .before .before .before .before .before .draw-line .last .0)))) (λ h. rw z (d .ensures .1 h)) _ (w .result) _ (w .kept .0) (w .ensures) refl (c .greater .ensures) refl)
+    let t = at-loop-test .loop-test .taken in
+    (omega (arith, t), d .kept .0 ∙ l .inv .1, spread-more (prefixText (entry (a .table .now)) (a .drawn)) (lineTimes (a .plan) (a .drawn .renderer) (a .drawn .row)) allLines (l .k) (a .message .now) (a .at) (a .out .now) (l .out) _ (l .inv .2) PostAncestry (omega (arith, t)) (at-line-at .line-at .result) (at-times .times .result) (at-line-at .line-at .ensures) (at-times .times .ensures) x (omega (arith, at-draw-line .draw-line .ensures .0, length-take (at-draw-line .draw-line .result - 0) (drop 0 (at-draw-line .draw-line .last .0)))) (λ h. rw z (d .ensures .1 h)) _ (w .result) _ (w .kept .0) (w .ensures) refl (c .greater .ensures) refl)
 
 same-length : tie.Need-same-length Inv-loop μ-loop
 same-length c = c .before .loop .inv .2 .same

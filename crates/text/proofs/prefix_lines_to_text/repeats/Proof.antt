@@ -1,3 +1,4 @@
+-- How often a line is written that the row has; text starts at the node.
 use borrow.Author.Needs.{needs}
 use Rattle.text.proofs.prefix_lines_to_text.repeats.Statement.{statement}
 use Rattle.text.proofs.prefix_lines_to_text.repeats.Tie as tie

@@ -1,7 +1,8 @@
+-- The text state after a row: the foot line waits for the next row if this one has a term line and wrote no foot line.
 use Prim.Native.Nat.{_-_}
 use native.Mathlib.Omega.{arith}
 use lib.ListN.{drop, length-take}
-use Rattle.glyphs.specs.Inner.{entry}
+use Rattle.glyphs.specs.Drawing.{entry}
 use Rattle.output.proofs.PutLaws.{queue-long}
 use Rattle.text.proofs.RowTextLaws.{state-plain, state-queued}
 use borrow.Author.Needs.{needs}
@@ -15,7 +16,9 @@ at-foot-requires : tie.Need-at-foot-requires
 at-foot-requires c κs = search needs
 
 returns : tie.Need-returns
-returns c = state-plain (entry (c .before .before .before .before .before .before .args .table .now)) (c .before .before .before .before .before .before .args .drawn) (c .before .before .before .before .before .before .args .plan) (c .before .at-foot .result) (c .before .at-foot .ensures) (c .before .before .before .before .before .before .args .state .«queued_pad_line») (c .if1 .taken)
+returns c =
+    let a = c .before .before .before .before .before .before .args in
+    state-plain (entry (a .table .now)) (a .drawn) (a .plan) (c .before .at-foot .result) (c .before .at-foot .ensures) (a .state .«queued_pad_line») (c .if1 .taken)
 
 slice-aggregate-draw-line : tie.Need-slice-aggregate-draw-line
 slice-aggregate-draw-line c = search needs
@@ -40,8 +43,12 @@ copy-bytes-requires c κs = search needs
 
 returns-2 : tie.Need-returns-2
 returns-2 c =
-    let d = c .before .before .before .before .before .before .draw-line in
-    state-queued (entry (c .before .before .before .before .before .before .before .before .before .before .before .before .before .before .args .table .now)) (c .before .before .before .before .before .before .before .before .before .before .before .before .before .before .args .drawn) (c .before .before .before .before .before .before .before .before .before .before .before .before .before .before .args .plan) (c .before .before .before .before .before .before .before .before .before .at-foot .result) (c .before .before .before .before .before .before .before .before .before .at-foot .ensures) (c .before .before .before .before .before .before .before .before .before .before .before .before .before .before .args .state .«queued_pad_line») _ (d .last .0) (d .result) (c .before .before .before .before .before .before .before .before .if1 .left) (omega (arith, d .ensures .0, d .kept .0)) (d .ensures .1 (omega arith)) (c .before .copy-bytes .ensures (omega (arith, d .ensures .0, length-take (d .result - 0) (drop 0 (d .last .0)), queue-long (c .before .before .before .before .before .before .before .before .before .before .before .before .before .before .args .state .«queued_pad_line») _ (c .before .before .before .before .before .before .before .before .before .before .before .before .before .before .good .1 .1 .1 .0 .1 .1 .0 .1 .0 .1))))
+    let at-draw-line = c .before .before .before .before .before .before in
+    let at-if1 = at-draw-line .before .before in
+    let foot = at-if1 .before in
+    let start = foot .before .before .before .before .before in
+    let d = at-draw-line .draw-line in
+    state-queued (entry (start .args .table .now)) (start .args .drawn) (start .args .plan) (foot .at-foot .result) (foot .at-foot .ensures) (start .args .state .«queued_pad_line») _ (d .last .0) (d .result) (at-if1 .if1 .left) (omega (arith, d .ensures .0, d .kept .0)) (d .ensures .1 (omega arith)) (c .before .copy-bytes .ensures (omega (arith, d .ensures .0, length-take (d .result - 0) (drop 0 (d .last .0)), queue-long (start .args .state .«queued_pad_line») _ (start .good .1 .1 .1 .0 .1 .1 .0 .1 .0 .1))))
 
 pub state-after-spec : {M : Type 1} → statement M
 state-after-spec =
