@@ -30,14 +30,14 @@ isDrawn drawn.Indirect = true
 isDrawn drawn.Direct = true
 isDrawn drawn.Anonymous = true
 
--- whether a direct one does; Anonymous "counts as direct" (01, point 2)
+-- whether a direct one does: "Parent (direct), Anonymous (.. counts as direct ..)" (01, point 2; `ancestor_is_direct` in graph_to_row_shape.rs)
 abbrev pub isDirectlyDrawn : Drawn → Bool
 isDirectlyDrawn drawn.Nobody = false
 isDirectlyDrawn drawn.Indirect = false
 isDirectlyDrawn drawn.Direct = true
 isDirectlyDrawn drawn.Anonymous = true
 
--- whether an indirect one does
+-- whether an indirect one does: "Ancestor (indirect)" (01, point 2)
 abbrev pub isIndirectlyDrawn : Drawn → Bool
 isIndirectlyDrawn drawn.Nobody = false
 isIndirectlyDrawn drawn.Indirect = true

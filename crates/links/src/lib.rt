@@ -64,7 +64,7 @@ impl Drawn {
         }
     }
 
-    // Whether an entry draws that counts as direct.
+    // Whether an entry draws that counts as direct (`ancestor_is_direct` in graph_to_row_shape.rs).
     pub fn is_direct(self) -> bool
         ensures { λ r. ⌜ r ≡ isDirectlyDrawn self ⌝ }
     {

@@ -20,12 +20,6 @@ entryId (Indirect n) = some n
 entryId (Direct n) = some n
 entryId Anonymous = none
 
--- "Ancestor (indirect), Parent (direct), Anonymous (.. counts as direct ..)" (01, point 2; `ancestor_is_direct`)
-abbrev pub isDirect : Ancestor → Bool
-isDirect (Indirect n) = false
-isDirect (Direct n) = true
-isDirect Anonymous = true
-
 -- "Anonymous" (01, point 2)
 abbrev pub isAnonymous : Ancestor → Bool
 isAnonymous (Indirect n) = false

@@ -1,7 +1,7 @@
 // Parent entries, the cells of node and pad lines, and the marks of link lines, after render.rs.
 ghost use mathlib.Core.Path.{_≡_};
 ghost use Prim.Native.Nat.{_≤_};
-ghost use Rattle.render.specs.Entries.{pushed, noEntries, listed, tooMany, isDirect, isAnonymous};
+ghost use Rattle.render.specs.Entries.{pushed, noEntries, listed, tooMany, isAnonymous};
 ghost use Rattle.render.specs.Link.{meets, joined, only, unmarked, linkOf};
 
 // The most entries of a row.
@@ -18,17 +18,6 @@ pub enum Ancestor {
 }
 
 impl Ancestor {
-    // Whether the entry counts as direct (`ancestor_is_direct` in graph_to_row_shape.rs).
-    pub fn is_direct(self) -> bool
-        ensures { λ r. ⌜ r ≡ isDirect self ⌝ }
-    {
-        match self {
-            Ancestor::Ancestor(_) => false,
-            Ancestor::Parent(_) => true,
-            Ancestor::Anonymous => true,
-        }
-    }
-
     // Whether the entry has no id.
     pub fn is_anonymous(self) -> bool
         ensures { λ r. ⌜ r ≡ isAnonymous self ⌝ }
