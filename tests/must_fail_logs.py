@@ -18,6 +18,7 @@ FIT = [
     r"unexpected",
     r"expected a ",
     r"missing field",
+    r"has no field",
 ]
 
 # how a term of the generated code begins, which a proof by hand walks, and of a walk's own types
