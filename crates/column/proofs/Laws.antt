@@ -16,8 +16,8 @@ use Rattle.column.specs.declared.Slot.{Slot}
 use Rattle.column.specs.declared.Found.{Found}
 use Rattle.column.specs.declared.Found.the-variants.{At, Nothing}
 use Rattle.column.specs.Columns.{columnLimit, isEmpty, next, first, findEmpty, vacant, keep, trim, at, put, live, emptySlot, SpareEmpty}
-use Rattle.column.proofs.Places.{put-inside, put-end}
-use Rattle.column.proofs.Front.{length-front, front-getD, front-set, front-suc, front-clamp}
+use Rattle.slices.proofs.Places.{put-inside, put-end}
+use Rattle.slices.proofs.Front.{length-front, front-getD, front-set, front-suc, front-clamp}
 
 abbrev pub columnOf : Slot → Column
 columnOf s = s .column

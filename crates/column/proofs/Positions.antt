@@ -12,7 +12,7 @@ use Rattle.column.specs.declared.Column.{Column}
 use Rattle.column.specs.declared.Column.the-variants.{Empty}
 use Rattle.column.specs.declared.Slot.{Slot}
 use Rattle.column.specs.Columns.{at, put, live, emptySlot, columnAt}
-use Rattle.column.proofs.Places.{put-same, put-other, put-length, put-past}
+use Rattle.slices.proofs.Places.{put-same, put-other, put-length, put-past}
 use Rattle.column.proofs.Laws.{live-at, live-past}
 
 pub at-put-same : (cs : List Column) (k : ℕ) (v : Column) → at (put cs k v) k ≡ v

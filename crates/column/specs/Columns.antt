@@ -6,6 +6,7 @@ use mathlib.Core.List.{List, [], _∷_, map}
 use mathlib.Core.Option.{Option, none, some}
 use lib.Dec.{eqb, ltb}
 use lib.ListN.{length, getD, take}
+use Rattle.slices.specs.Lists.{putWith}
 use Rattle.column.specs.declared.Column.{Column}
 use Rattle.column.specs.declared.Column.the-variants.{Empty, Blocked, Reserved, Ancestor, Parent}
 use Rattle.column.specs.declared.Slot.{Slot}
@@ -137,13 +138,6 @@ reset cs = trim (map unblock cs)
 -- what stands in column i; past the last column nothing does
 abbrev pub at : List Column → ℕ → Column
 at cs i = getD cs i Empty
-
--- place i of a list becomes x; where there is none yet, places that hold d are made up to it
-abbrev pub putWith : {A : Type 0} → A → List A → ℕ → A → List A
-putWith d [] zero x = x ∷ []
-putWith d [] (suc i) x = d ∷ putWith d [] i x
-putWith d (y ∷ l) zero x = x ∷ l
-putWith d (y ∷ l) (suc i) x = y ∷ putWith d l i x
 
 -- column i becomes c; where there is no column i yet, Empty ones are made up to it
 abbrev pub put : List Column → ℕ → Column → List Column

@@ -13,9 +13,9 @@ use Rattle.glyphs.specs.declared.types.Place.{Place}
 use Rattle.glyphs.specs.declared.types.Row.{Row}
 use Rattle.glyphs.specs.Cells.{joinsFrom}
 use Rattle.glyphs.specs.Drawing.{cellBytes, cellsText}
-use Rattle.glyphs.specs.Joins.{joins}
+use Rattle.slices.specs.Joins.{joins}
 use Rattle.glyphs.specs.Row.{firstLink, places}
-use Rattle.glyphs.proofs.JoinLaws.{joins-short}
+use Rattle.slices.proofs.JoinLaws.{joins-short}
 use Rattle.glyphs.proofs.PlaceLaws.{length-places}
 use Rattle.glyphs.proofs.TableLaws.{cell-short}
 

@@ -16,11 +16,11 @@ use Rattle.glyphs.specs.declared.types.Line.{Line}
 use Rattle.glyphs.specs.declared.types.Row.{Row}
 use Rattle.glyphs.specs.Inner.{Holds, Placed, nextIndex, nextLink}
 use Rattle.glyphs.specs.Drawing.{cellBytes, cellsText}
-use Rattle.glyphs.specs.Joins.{joins, over}
+use Rattle.slices.specs.Joins.{joins, over}
 use Rattle.glyphs.specs.Row.{places}
 use Rattle.glyphs.proofs.CellLaws.{noPlace}
-use Rattle.glyphs.proofs.JoinLaws.{joins-append, next-length}
-use Rattle.glyphs.proofs.OverLaws.{over-one}
+use Rattle.slices.proofs.JoinLaws.{joins-append, next-length}
+use Rattle.slices.proofs.OverLaws.{over-one}
 use Rattle.glyphs.proofs.PlaceLaws.{length-row, place-made}
 use Rattle.glyphs.proofs.TableLaws.{cell-short}
 

@@ -1,7 +1,5 @@
 pub mod Alike
 pub mod CellLaws
-pub mod JoinLaws
-pub mod OverLaws
 pub mod PlaceLaws
 pub mod TableLaws
 pub mod DrawLaws

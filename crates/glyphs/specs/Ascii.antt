@@ -18,7 +18,7 @@ use Rattle.glyphs.specs.declared.types.Line.{Line}
 use Rattle.glyphs.specs.declared.types.Line.the-variants.{PreNode, Node, PostNode, Link, SecondLink, Term, SecondTerm, Ancestry, PostAncestry}
 use Rattle.glyphs.specs.declared.types.Place.{Place}
 use Rattle.glyphs.specs.declared.types.Row.{Row}
-use Rattle.glyphs.specs.Characters.{blank, quote, plus, minus, dot, slash, colon, backslash, bar, tilde}
+use Rattle.slices.specs.Characters.{blank, quote, plus, minus, dot, slash, colon, backslash, bar, tilde}
 use Rattle.glyphs.specs.Marks.{horizontal, vertical, vertParent, leftFork, rightFork, leftMerge, rightMerge, anyFork, anyMerge, anyForkOrMerge, child}
 
 -- the dashed upright's character (`ancestor`)

@@ -19,7 +19,7 @@ use Rattle.glyphs.specs.declared.types.Line.{Line}
 use Rattle.glyphs.specs.declared.types.Line.the-variants.{PreNode, Node, PostNode, Link, SecondLink, Term, SecondTerm, Ancestry, PostAncestry}
 use Rattle.glyphs.specs.declared.types.Place.{Place}
 use Rattle.glyphs.specs.declared.types.Row.{Row}
-use Rattle.glyphs.specs.Characters.{blank, dot, slash, colon, backslash, underscore, bar, tilde}
+use Rattle.slices.specs.Characters.{blank, dot, slash, colon, backslash, underscore, bar, tilde}
 use Rattle.glyphs.specs.Marks.{horizParent, horizAncestor, vertParent, vertAncestor, leftForkParent, leftForkAncestor, rightForkParent, rightForkAncestor, leftMergeParent, leftMergeAncestor, rightMergeParent, rightMergeAncestor, anyMerge}
 
 -- the dashed upright's character (`ancestor`)

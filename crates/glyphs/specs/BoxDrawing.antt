@@ -19,7 +19,7 @@ use Rattle.glyphs.specs.declared.types.Line.{Line}
 use Rattle.glyphs.specs.declared.types.Line.the-variants.{PreNode, Node, PostNode, Link, SecondLink, Term, SecondTerm, Ancestry, PostAncestry}
 use Rattle.glyphs.specs.declared.types.Place.{Place}
 use Rattle.glyphs.specs.declared.types.Row.{Row}
-use Rattle.glyphs.specs.Characters.{blank}
+use Rattle.slices.specs.Characters.{blank}
 use Rattle.glyphs.specs.GlyphSets.{SPACE, HORIZONTAL, PARENT, ANCESTOR, MERGE-LEFT, MERGE-RIGHT, MERGE-BOTH, FORK-LEFT, FORK-RIGHT, FORK-BOTH, JOIN-LEFT, JOIN-RIGHT, JOIN-BOTH, TERMINATION, ANCESTOR-ONCE}
 use Rattle.glyphs.specs.Marks.{horizontal, vertical, vertParent, vertAncestor, leftFork, rightFork, leftMerge, rightMerge, anyFork, anyMerge, child}
 

@@ -11,7 +11,7 @@ use Rattle.glyphs.specs.declared.types.Line.{Line}
 use Rattle.glyphs.specs.declared.types.Place.{Place}
 use Rattle.glyphs.specs.declared.types.Row.{Row}
 use Rattle.glyphs.specs.Cells.{choiceOf, bytesOf, glyphsOf}
-use Rattle.glyphs.specs.Joins.{joins}
+use Rattle.slices.specs.Joins.{joins}
 use Rattle.glyphs.specs.Row.{places}
 
 -- glyph n of a table: a count, read as at most 8, and eight places

@@ -2,10 +2,8 @@ pub mod Ascii
 pub mod AsciiLarge
 pub mod BoxDrawing
 pub mod Cells
-pub mod Characters
 pub mod GlyphSets
 pub mod Drawing
 pub mod Inner
-pub mod Joins
 pub mod Marks
 pub mod Row

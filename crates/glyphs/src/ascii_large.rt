@@ -2,7 +2,7 @@
 ghost use mathlib.Core.Path.{_≡_};
 ghost use mathlib.Core.List.{[], _∷_};
 ghost use Rattle.glyphs.specs.AsciiLarge.{stroke, level, topLeft, lying, topCenter, topRight, bottomLeft, bottomCenter, bottomRight, linked, apart, bytes};
-ghost use Rattle.glyphs.specs.Characters.{blank};
+ghost use Rattle.slices.specs.Characters.{blank};
 ghost use Rattle.glyphs.specs.Inner.{Holds};
 use crate::ascii::dash;
 use crate::types::Choice;

@@ -10,7 +10,7 @@ use lib.ListN.{length, getD, drop, drop-of-length-le}
 use lib.Seq.{drop-cons}
 use lib.Dec.{ltb, eqb}
 use Rattle.render.specs.Link.{strokes}
-use Rattle.column.proofs.Front.{length-front, front-getD}
+use Rattle.slices.proofs.Front.{length-front, front-getD}
 use Rattle.render.specs.declared.render.Marks.{Marks}
 use Rattle.links.specs.declared.Drawn.{Drawn}
 use Rattle.links.specs.declared.Drawn.the-variants.{Nobody, Indirect, Direct, Anonymous}

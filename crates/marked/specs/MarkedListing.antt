@@ -10,7 +10,7 @@ use Rattle.placing.specs.Placing.{place}
 use Rattle.row_shape.specs.Row.{row}
 use Rattle.glyphs.specs.Ascii.{standing, upright, connection}
 use Rattle.glyphs.specs.Cells.{choiceOf, glyphsOf, bytesOf}
-use Rattle.glyphs.specs.Characters.{newline}
+use Rattle.slices.specs.Characters.{newline}
 use Rattle.prefix_lines.specs.Listing.{listingBytes}
 use Rattle.record.specs.Record.{recordLength, nextRecord}
 use Rattle.steps.specs.Steps.{ProgressView, beginning, StepReply, listingStep}

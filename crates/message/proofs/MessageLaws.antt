@@ -10,7 +10,7 @@ use lib.Dec.{eqb, ltb, lit≤}
 use lib.ListN.{length, take, drop, getD, take-append-drop, drop-of-length-le, length-append, length-drop, length-take}
 use lib.Seq.{drop-cons, take-suc, length-take-le, drop-drop}
 use borrow.Author.Tests.{eq-eqb, ne-eqb, ltb-true, ltb-false}
-use Rattle.glyphs.specs.Characters.{newline}
+use Rattle.slices.specs.Characters.{newline}
 use Rattle.message.specs.Inner.{ends, firstLine, otherLines}
 use Rattle.message.specs.Message.{allOf, onto, linesOf, lineLength, trimEnd, keepLast}
 

@@ -4,7 +4,7 @@ use mathlib.Core.Bool.{cond}
 use mathlib.Core.List.{List, [], _∷_}
 use lib.Dec.{eqb}
 use lib.ListN.{take, drop}
-use Rattle.glyphs.specs.Characters.{newline}
+use Rattle.slices.specs.Characters.{newline}
 use Rattle.message.specs.Message.{lineLength}
 
 -- the count of line ends

@@ -3,7 +3,7 @@ use Prim.Native.Nat.{ℕ, suc}
 use mathlib.Core.Bool.{Bool, true, cond, _&&_, _||_}
 use mathlib.Core.List.{List, [], _∷_}
 use lib.Dec.{eqb, leb}
-use Rattle.glyphs.specs.Characters.{newline, blank}
+use Rattle.slices.specs.Characters.{newline, blank}
 
 -- "message above 512 bytes" (01, the table's row for text)
 abbrev pub messageLimit : ℕ

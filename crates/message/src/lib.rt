@@ -4,7 +4,7 @@ ghost use Prim.Native.Nat.{suc, _+_, _≤_, min};
 ghost use lib.ListN.{length, take, drop};
 ghost use mathlib.Core.Bool.{cond};
 ghost use lib.Dec.{eqb};
-ghost use Rattle.glyphs.specs.Characters.{newline};
+ghost use Rattle.slices.specs.Characters.{newline};
 ghost use Rattle.message.specs.Inner.{ends, blockLength};
 ghost use Rattle.message.specs.Message.{isWritable, allOf, linesOf, lineLength, trimEnd};
 

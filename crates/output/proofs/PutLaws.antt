@@ -9,8 +9,8 @@ use lib.Dec.{eqb, ltb, lit≤}
 use borrow.Author.Tests.{ne-eqb, ltb-true, ltb-false}
 use lib.ListN.{length, take, drop, length-append, length-drop, length-take, drop-of-length-le, take-append-drop, length-map}
 use lib.Seq.{take-all, drop-drop, length-take-le, take-at, drop-append-add}
-use Rattle.glyphs.specs.Joins.{over}
-use Rattle.glyphs.proofs.JoinLaws.{joins-append}
+use Rattle.slices.specs.Joins.{over}
+use Rattle.slices.proofs.JoinLaws.{joins-append}
 use Rattle.message.specs.Message.{trimEnd}
 use Rattle.message.proofs.MessageLaws.{trim-length}
 use Rattle.output.specs.declared.Put.{Put}

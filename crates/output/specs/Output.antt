@@ -5,8 +5,8 @@ use mathlib.Core.Bool.{Bool, cond, _&&_}
 use mathlib.Core.List.{List, [], _∷_, _++_, map}
 use lib.Dec.{eqb}
 use lib.ListN.{length, take, drop}
-use Rattle.glyphs.specs.Joins.{joins}
-use Rattle.glyphs.specs.Characters.{newline}
+use Rattle.slices.specs.Joins.{joins}
+use Rattle.slices.specs.Characters.{newline}
 use Rattle.message.specs.Message.{trimEnd}
 use Rattle.output.specs.declared.TextState.{TextState}
 use Rattle.output.specs.declared.Put.{Put}

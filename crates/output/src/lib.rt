@@ -4,7 +4,7 @@ ghost use mathlib.Core.List.{[], _∷_};
 ghost use Prim.Native.Nat.{_<_, _≤_, min, max};
 ghost use lib.Dec.{eqb};
 ghost use lib.ListN.{length, take};
-ghost use Rattle.glyphs.specs.Joins.{over};
+ghost use Rattle.slices.specs.Joins.{over};
 ghost use Rattle.output.specs.Output.{queueLimit, ended, finish, measureOf, flushed, linesAbove, beginRow, textViewOf, Puts};
 
 // The greatest length of a queued line: eight bytes for each of 64 cells.

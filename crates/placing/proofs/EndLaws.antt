@@ -12,7 +12,7 @@ use Rattle.column.specs.declared.Column.{Column}
 use Rattle.column.specs.declared.Column.the-variants.{Empty}
 use Rattle.column.specs.declared.Slot.{Slot}
 use Rattle.column.specs.Columns.{columnLimit, direct, unblock, trim, at, live, emptySlot, withColumn, SpareEmpty}
-use Rattle.column.proofs.Front.{length-front, front-clamp}
+use Rattle.slices.proofs.Front.{length-front, front-clamp}
 use Rattle.column.proofs.Laws.{columnOf, trim-at, live-at}
 use Rattle.column.proofs.Positions.{past-end}
 use Rattle.column.proofs.Laws.{Filled}

@@ -16,7 +16,7 @@ use Rattle.column.specs.declared.Found.{Found}
 use Rattle.column.specs.declared.Found.the-variants.{At, Nothing}
 use Rattle.column.specs.declared.Slot.{Slot}
 use Rattle.column.specs.Columns.{columnLimit, isEmpty, first, findEmpty, orElse, merge, at, put, live, emptySlot}
-use Rattle.column.proofs.Front.{length-front, front-getD, front-set}
+use Rattle.slices.proofs.Front.{length-front, front-getD, front-set}
 use Rattle.column.proofs.Laws.{columnOf as slotColumn, first-below, live-put, put-set}
 use Rattle.column.proofs.Positions.{at-put-same, at-put-other, length-put, put-skip, at-live}
 use Rattle.render.specs.declared.render.Ancestor.{Ancestor as Entry}

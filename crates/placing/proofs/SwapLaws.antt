@@ -14,7 +14,7 @@ use Rattle.column.specs.declared.Found.{Found}
 use Rattle.column.specs.declared.Found.the-variants.{At, Nothing}
 use Rattle.column.specs.declared.Slot.{Slot}
 use Rattle.column.specs.Columns.{columnLimit, orElse, merge, at, put, live, emptySlot}
-use Rattle.column.proofs.Front.{length-front, front-set}
+use Rattle.slices.proofs.Front.{length-front, front-set}
 use Rattle.column.proofs.Laws.{columnOf as slotColumn, live-at, put-set}
 use Rattle.column.proofs.Positions.{at-put-other, length-put}
 use Rattle.render.specs.declared.render.Ancestor.{Ancestor as Entry}

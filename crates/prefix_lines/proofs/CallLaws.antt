@@ -20,11 +20,11 @@ use Rattle.glyphs.specs.declared.types.Place.{Place}
 use Rattle.glyphs.specs.declared.types.Row.{Row}
 use Rattle.glyphs.specs.Ascii as ascii
 use Rattle.glyphs.specs.Drawing.{entry, Draws, cellBytes, cellsText}
-use Rattle.glyphs.specs.Joins.{joins, over}
+use Rattle.slices.specs.Joins.{joins, over}
 use Rattle.glyphs.specs.Cells.{allLines, isPresent, keep, choiceOf, lineOf, glyphsOf, bytesOf}
 use Rattle.glyphs.specs.Row.{rowOf, places}
 use Rattle.glyphs.proofs.CellLaws.{joins-from, cells-short}
-use Rattle.glyphs.proofs.JoinLaws.{joins-short}
+use Rattle.slices.proofs.JoinLaws.{joins-short}
 use Rattle.glyphs.proofs.PlaceLaws.{length-places}
 use Rattle.glyphs.proofs.TableLaws.{glyph-short}
 use Rattle.prefix_lines.specs.declared.Written.{Written}

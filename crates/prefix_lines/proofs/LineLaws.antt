@@ -11,11 +11,11 @@ use Rattle.glyphs.specs.declared.Renderer.{Renderer}
 use Rattle.glyphs.specs.declared.types.Line.{Line}
 use Rattle.glyphs.specs.declared.types.Row.{Row}
 use Rattle.glyphs.specs.Cells.{isPresent}
-use Rattle.glyphs.specs.Characters.{newline, colon}
+use Rattle.slices.specs.Characters.{newline, colon}
 use Rattle.glyphs.specs.Drawing.{cellsText}
-use Rattle.glyphs.specs.Joins.{over}
+use Rattle.slices.specs.Joins.{over}
 use Rattle.glyphs.proofs.CellLaws.{cells-short}
-use Rattle.glyphs.proofs.OverLaws.{over-one, part-written}
+use Rattle.slices.proofs.OverLaws.{over-one, part-written}
 use Rattle.prefix_lines.specs.declared.writer.Frame.{Frame}
 use Rattle.prefix_lines.specs.declared.writer.Frame.the-variants.{Plain, Listed}
 use Rattle.prefix_lines.specs.Inner.{opening, closing, frameLength, framed, lineText}

@@ -10,9 +10,9 @@ use Rattle.glyphs.specs.declared.Renderer.{Renderer}
 use Rattle.glyphs.specs.declared.types.Line.{Line}
 use Rattle.glyphs.specs.declared.types.Row.{Row}
 use Rattle.glyphs.specs.Cells.{PrefixLine, isPresent, allLines, lines, glyphsOf, bytesOf, joinsFrom}
-use Rattle.glyphs.specs.Characters.{newline, colon}
+use Rattle.slices.specs.Characters.{newline, colon}
 use Rattle.glyphs.specs.Drawing.{cellsText}
-use Rattle.glyphs.specs.Joins.{joins}
+use Rattle.slices.specs.Joins.{joins}
 use Rattle.prefix_lines.specs.declared.writer.Frame.{Frame}
 use Rattle.prefix_lines.specs.declared.writer.Frame.the-variants.{Plain, Listed}
 use Rattle.prefix_lines.specs.Listing.{dollar}

@@ -6,8 +6,8 @@ use Rattle.render.specs.declared.types.RowShape.{RowShape}
 use Rattle.render.specs.Refusals.{Check, refusal}
 use Rattle.glyphs.specs.declared.Renderer.the-variants.{Ascii}
 use Rattle.glyphs.specs.Cells.{PrefixLine, lines, glyphsOf, bytesOf, joinsFrom}
-use Rattle.glyphs.specs.Characters.{newline, colon}
-use Rattle.glyphs.specs.Joins.{joins}
+use Rattle.slices.specs.Characters.{newline, colon}
+use Rattle.slices.specs.Joins.{joins}
 use Rattle.prefix_lines.specs.PrefixLines.{letter, checksFor, Answer, answered}
 
 -- the listing's own character, `$`

@@ -13,8 +13,8 @@ use Rattle.glyphs.specs.declared.Renderer.{Renderer}
 use Rattle.glyphs.specs.declared.types.Line.{Line}
 use Rattle.glyphs.specs.declared.types.Line.the-variants.{PreNode, Node, PostNode, Link, SecondLink, Term, SecondTerm, Ancestry, PostAncestry}
 use Rattle.glyphs.specs.Cells.{PrefixLine, lines, glyphsOf, bytesOf, joinsFrom}
-use Rattle.glyphs.specs.Characters.{newline}
-use Rattle.glyphs.specs.Joins.{joins, over}
+use Rattle.slices.specs.Characters.{newline}
+use Rattle.slices.specs.Joins.{joins, over}
 use Rattle.prefix_lines.specs.declared.Written.{Written}
 
 -- the kind letters: P N Q L L T T A Z

@@ -4,7 +4,7 @@ ghost use Prim.Native.Nat.{_≤_};
 ghost use lib.ListN.{length, take};
 ghost use Rattle.column.specs.Columns.{columnLimit};
 ghost use Rattle.glyphs.specs.Drawing.{cellsText, entry};
-ghost use Rattle.glyphs.specs.Joins.{over};
+ghost use Rattle.slices.specs.Joins.{over};
 ghost use Rattle.prefix_lines.specs.Inner.{closing, lineText, linesText, opening};
 ghost use Rattle.prefix_lines.specs.PrefixLines.{letter};
 use column::COLUMN_LIMIT;

@@ -15,7 +15,7 @@ use Rattle.column.specs.declared.Found.{Found}
 use Rattle.column.specs.declared.Found.the-variants.{At, Nothing}
 use Rattle.column.specs.declared.Slot.{Slot}
 use Rattle.column.specs.Columns.{columnLimit, isParent, isAncestor, find, orElse, at, put, live, emptySlot}
-use Rattle.column.proofs.Front.{length-front, front-clamp}
+use Rattle.slices.proofs.Front.{length-front, front-clamp}
 use Rattle.column.proofs.Laws.{columnOf as slotColumn, live-at, first-below}
 use Rattle.column.proofs.Positions.{length-put}
 use Rattle.render.specs.declared.render.Ancestor.{Ancestor as Entry}

@@ -11,7 +11,7 @@ use Rattle.column.specs.declared.Column.the-variants.{Reserved}
 use Rattle.column.specs.declared.Found.the-variants.{At, Nothing}
 use Rattle.column.specs.declared.Slot.{Slot}
 use Rattle.column.specs.Columns.{columnLimit, isEmpty, find, live, first, orElse, vacant, put}
-use Rattle.column.proofs.Front.{length-front}
+use Rattle.slices.proofs.Front.{length-front}
 use Rattle.column.proofs.Laws.{first-below, live-put}
 use Rattle.render.specs.declared.render.Entries.{Entries}
 use Rattle.render.specs.Entries.{entryLimit, listed, tooMany}

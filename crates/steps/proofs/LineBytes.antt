@@ -7,8 +7,8 @@ use native.Mathlib.Omega.{arith}
 use borrow.Author.Tests.{lt-ltb, le-ltb}
 use lib.Dec.{ltb}
 use lib.ListN.{length, take, drop, set, length-append, length-set}
-use Rattle.glyphs.specs.Joins.{over}
-use Rattle.glyphs.proofs.OverLaws.{over-one, part-written, part-length}
+use Rattle.slices.specs.Joins.{over}
+use Rattle.slices.proofs.OverLaws.{over-one, part-written, part-length}
 use Rattle.steps.specs.Steps.{decimalIn, places, refusedWord, recordWords, refusedLine, lineRoom, refusedIn}
 
 -- ---- a number in decimal

@@ -22,9 +22,9 @@ use Rattle.glyphs.specs.declared.Renderer.the-variants.{Ascii, AsciiLarge, Squa
 use Rattle.glyphs.specs.declared.types.Line.{Line}
 use Rattle.glyphs.specs.Cells.{allLines, setOf}
 use Rattle.glyphs.specs.Drawing.{entry, Draws}
-use Rattle.glyphs.specs.Joins.{joins}
+use Rattle.slices.specs.Joins.{joins}
 use Rattle.glyphs.specs.Row.{rowOf}
-use Rattle.glyphs.proofs.JoinLaws.{joins-append}
+use Rattle.slices.proofs.JoinLaws.{joins-append}
 use Rattle.glyphs.proofs.TableLaws.{draws, entry-short}
 use Rattle.prefix_lines.specs.Listing.{listingBytes}
 use Rattle.prefix_lines.proofs.CallLaws.{listing-sized}

@@ -25,7 +25,7 @@ use Rattle.row_shape.proofs.RowFits.{row-fits}
 use Rattle.column.specs.Columns.{columnLimit}
 use Rattle.glyphs.specs.declared.Renderer.{Renderer}
 use Rattle.glyphs.specs.declared.Renderer.the-variants.{Curved}
-use Rattle.glyphs.specs.Joins.{over}
+use Rattle.slices.specs.Joins.{over}
 use Rattle.prefix_lines.specs.declared.Written.{Written}
 use Rattle.prefix_lines.specs.PrefixLines.{Answer as LinesAnswer, answerOf, answered}
 use Rattle.prefix_lines.specs.Listing.{listingBytes, listing}

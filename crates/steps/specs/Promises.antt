@@ -4,7 +4,7 @@ use mathlib.Core.Path.{_≡_}
 use mathlib.Core.Bool.{false}
 use mathlib.Core.List.{List}
 use lib.ListN.{length, replicate}
-use Rattle.glyphs.specs.Joins.{over}
+use Rattle.slices.specs.Joins.{over}
 use Rattle.shaper.specs.Shaper.{viewOf, fresh}
 use Rattle.output.specs.declared.TextState.{TextState}
 use Rattle.output.specs.Output.{queueLimit, textViewOf}

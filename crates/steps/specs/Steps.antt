@@ -12,7 +12,7 @@ use Rattle.render.specs.Refusals.{notRefused, markOutsideSpan, outputShorterTha
 use Rattle.shaper.specs.Shaper.{View, newShaper}
 use Rattle.row_shape.specs.Row.{RowReply, row}
 use Rattle.glyphs.specs.declared.Renderer.the-variants.{Curved}
-use Rattle.glyphs.specs.Characters.{newline}
+use Rattle.slices.specs.Characters.{newline}
 use Rattle.prefix_lines.specs.Listing.{listingBytes}
 use Rattle.output.specs.Output.{TextView}
 use Rattle.text.specs.Text.{TextReply, text}

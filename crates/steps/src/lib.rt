@@ -3,7 +3,7 @@ ghost use mathlib.Core.Path.{_≡_};
 ghost use Prim.Native.Nat.{_+_, _≤_};
 ghost use lib.ListN.{length};
 ghost use mathlib.Core.List.{_++_};
-ghost use Rattle.glyphs.specs.Joins.{over};
+ghost use Rattle.slices.specs.Joins.{over};
 ghost use Rattle.record.specs.Record.{messageRoom};
 ghost use Rattle.record.specs.Promises.{recordViewOf};
 ghost use Rattle.steps.specs.Steps.{decimalIn, places, refusedIn, next as nextOf, stopped, pageRow, listingRow, pageStep, listingStep};

@@ -22,10 +22,10 @@ use Rattle.glyphs.specs.declared.types.Line.the-variants.{PreNode, Node, PostNo
 use Rattle.glyphs.specs.declared.types.Row.{Row}
 use Rattle.glyphs.specs.Cells.{allLines, isPresent, keep, choiceOf, PrefixLine, lineOf, lines, glyphsOf, bytesOf}
 use Rattle.glyphs.specs.Drawing.{entry, Draws, cellBytes, cellsText}
-use Rattle.glyphs.specs.Joins.{over}
+use Rattle.slices.specs.Joins.{over}
 use Rattle.glyphs.specs.Row.{rowOf}
 use Rattle.glyphs.proofs.CellLaws.{joins-from}
-use Rattle.glyphs.proofs.JoinLaws.{joins-append}
+use Rattle.slices.proofs.JoinLaws.{joins-append}
 use Rattle.glyphs.proofs.TableLaws.{entry-short}
 use Rattle.message.specs.Message.{linesOf, messageLimit}
 use Rattle.message.specs.Inner.{otherLines}

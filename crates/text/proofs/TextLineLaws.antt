@@ -6,9 +6,9 @@ use native.Mathlib.Omega.{arith}
 use lib.ListN.{length, take, drop, set, length-append, length-take}
 use lib.Seq.{take-at}
 use Rattle.glyphs.specs.declared.types.Line.{Line}
-use Rattle.glyphs.specs.Joins.{over}
+use Rattle.slices.specs.Joins.{over}
 use Rattle.glyphs.proofs.CellLaws.{cells-short}
-use Rattle.glyphs.proofs.OverLaws.{over-one, length-over, part-written}
+use Rattle.slices.proofs.OverLaws.{over-one, length-over, part-written}
 use Rattle.message.specs.Message.{trimEnd}
 use Rattle.message.proofs.MessageLaws.{keep-more, trim-length, trim-front, trim-behind}
 use Rattle.output.specs.declared.Put.{Put}

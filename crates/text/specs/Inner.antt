@@ -13,9 +13,9 @@ use Rattle.glyphs.specs.declared.types.Line.{Line}
 use Rattle.glyphs.specs.declared.types.Line.the-variants.{Link, SecondLink, Term, SecondTerm, Ancestry, PostAncestry}
 use Rattle.glyphs.specs.declared.types.Row.{Row}
 use Rattle.glyphs.specs.Cells.{allLines, isPresent}
-use Rattle.glyphs.specs.Characters.{blank}
+use Rattle.slices.specs.Characters.{blank}
 use Rattle.glyphs.specs.Drawing.{cellsText}
-use Rattle.glyphs.specs.Joins.{over}
+use Rattle.slices.specs.Joins.{over}
 use Rattle.glyphs.specs.Row.{rowOf}
 use Rattle.message.specs.Message.{linesOf}
 use Rattle.message.specs.Inner.{firstLine, otherLines}

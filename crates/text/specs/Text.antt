@@ -16,8 +16,8 @@ use Rattle.glyphs.specs.declared.Renderer.{Renderer}
 use Rattle.glyphs.specs.declared.types.Line.{Line}
 use Rattle.glyphs.specs.declared.types.Line.the-variants.{PreNode, Node, PostNode, Link, SecondLink, Term, SecondTerm, Ancestry, PostAncestry}
 use Rattle.glyphs.specs.Cells.{keep, PrefixLine, lineOf, lines, glyphsOf, bytesOf, joinsFrom}
-use Rattle.glyphs.specs.Characters.{blank}
-use Rattle.glyphs.specs.Joins.{over}
+use Rattle.slices.specs.Characters.{blank}
+use Rattle.slices.specs.Joins.{over}
 use Rattle.message.specs.Message.{messageLimit, isWritable, allOf, linesOf}
 use Rattle.output.specs.Output.{finish, textOf, lineMeasure, TextView, beginRow}
 

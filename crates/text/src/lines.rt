@@ -3,7 +3,7 @@ ghost use mathlib.Core.Path.{_≡_};
 ghost use mathlib.Core.List.{[], _∷_};
 ghost use Prim.Native.Nat.{_≤_, _<_};
 ghost use lib.ListN.{length};
-ghost use Rattle.glyphs.specs.Joins.{over};
+ghost use Rattle.slices.specs.Joins.{over};
 ghost use Rattle.message.specs.Message.{messageLimit, trimEnd};
 ghost use Rattle.output.specs.Output.{ended, measureOf, queueLimit, Puts};
 ghost use Rattle.text.specs.Inner.{lineWith};

@@ -13,9 +13,9 @@ use Rattle.column.specs.Columns.{columnLimit}
 use Rattle.render.specs.declared.types.Cell.{Cell}
 use Rattle.render.proofs.types.Cell.{the-type}
 use Rattle.render.specs.declared.types.RowShape.{RowShape}
-use Rattle.glyphs.specs.Joins.{joins, over}
-use Rattle.glyphs.proofs.JoinLaws.{joins-append}
-use Rattle.glyphs.proofs.OverLaws.{part-written}
+use Rattle.slices.specs.Joins.{joins, over}
+use Rattle.slices.proofs.JoinLaws.{joins-append}
+use Rattle.slices.proofs.OverLaws.{part-written}
 use Rattle.whole_history.specs.Shapes.{cellBytes, headBytes, shapeBytes, nodeBytes}
 use Rattle.whole_history.specs.Inner.{PutIn}
 

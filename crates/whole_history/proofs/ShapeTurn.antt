@@ -18,8 +18,8 @@ use Rattle.shaper.specs.Shaper.{viewOf}
 use Rattle.row_shape.specs.declared.RowAnswer.{RowAnswer}
 use Rattle.row_shape.specs.Row.{RowReply, row}
 use Rattle.row_shape.specs.Promises.{rowReplyOf, Rows}
-use Rattle.glyphs.specs.Joins.{over}
-use Rattle.glyphs.proofs.OverLaws.{length-over, part-room}
+use Rattle.slices.specs.Joins.{over}
+use Rattle.slices.proofs.OverLaws.{length-over, part-room}
 use Rattle.record.specs.Record.{recordLength, idAt}
 use Rattle.record.specs.Promises.{entriesWith}
 use Rattle.steps.specs.declared.Progress.{Progress}

@@ -11,7 +11,7 @@ use Rattle.render.specs.declared.render.Entries.{Entries}
 use Rattle.shaper.specs.declared.Shaper.{Shaper}
 use Rattle.shaper.specs.Shaper.{viewOf}
 use Rattle.glyphs.specs.declared.Renderer.{Renderer}
-use Rattle.glyphs.proofs.OverLaws.{part-length, part-room}
+use Rattle.slices.proofs.OverLaws.{part-length, part-room}
 use Rattle.output.specs.declared.TextState.{TextState}
 use Rattle.output.specs.Output.{textViewOf}
 use Rattle.text.specs.declared.graph_text_renderer.TextAnswer.{TextAnswer}

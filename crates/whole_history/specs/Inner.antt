@@ -5,7 +5,7 @@ use mathlib.Core.Bool.{cond}
 use mathlib.Core.List.{List}
 use lib.Dec.{leb}
 use lib.ListN.{length}
-use Rattle.glyphs.specs.Joins.{over}
+use Rattle.slices.specs.Joins.{over}
 
 -- bytes are put where the output has room for all of them, and counted; else nothing is
 pub record PutIn (bytes before after : List ℕ) (r : ℕ) : Type 0 where

@@ -9,7 +9,7 @@ use Rattle.render.specs.declared.render.PadLine.{PadLine}
 use Rattle.render.specs.declared.render.PadLine.the-variants.{Blank, Ancestor, Parent}
 use Rattle.render.specs.declared.types.Cell.{Cell}
 use Rattle.render.specs.declared.types.RowShape.{RowShape}
-use Rattle.glyphs.specs.Joins.{joins}
+use Rattle.slices.specs.Joins.{joins}
 
 -- 1 where it holds
 abbrev pub flag : Bool → ℕ

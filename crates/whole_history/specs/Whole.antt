@@ -10,7 +10,7 @@ use Rattle.shaper.specs.Shaper.{View}
 use Rattle.row_shape.specs.Row.{RowReply, row}
 use Rattle.glyphs.specs.declared.Renderer.{Renderer}
 use Rattle.glyphs.specs.declared.Renderer.the-variants.{Ascii, AsciiLarge, Square, Curved, Dec}
-use Rattle.glyphs.specs.Joins.{over}
+use Rattle.slices.specs.Joins.{over}
 use Rattle.output.specs.Output.{TextView}
 use Rattle.text.specs.Text.{TextReply, text}
 use Rattle.record.specs.Record.{recordLength, idAt, markOf, parentCount, parentLimit, writtenFrom, entryOf}

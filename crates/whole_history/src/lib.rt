@@ -2,7 +2,7 @@
 ghost use mathlib.Core.Path.{_≡_};
 ghost use Prim.Native.Nat.{_+_, _≤_, _%_, min};
 ghost use lib.ListN.{length};
-ghost use Rattle.glyphs.specs.Joins.{over};
+ghost use Rattle.slices.specs.Joins.{over};
 ghost use Rattle.record.specs.Record.{recordLength, idAt, entryOf};
 ghost use Rattle.record.specs.Promises.{entriesWith};
 ghost use Rattle.whole_history.specs.Shapes.{flag as flagOf, nodeNumber, padNumber, cellBytes, headBytes, shapeBytes};

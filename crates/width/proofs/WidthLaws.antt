@@ -14,7 +14,7 @@ use Rattle.column.specs.declared.Column.the-variants.{Empty, Blocked}
 use Rattle.column.specs.declared.Found.the-variants.{At, Nothing}
 use Rattle.column.specs.declared.Slot.{Slot}
 use Rattle.column.specs.Columns.{columnLimit, isEmpty, find, live, emptySlot}
-use Rattle.column.proofs.Front.{length-front, front-getD}
+use Rattle.slices.proofs.Front.{length-front, front-getD}
 use Rattle.column.proofs.Laws.{columnOf, live-at, live-below, live-past}
 use Rattle.render.specs.declared.render.Entries.{Entries}
 use Rattle.render.specs.Entries.{given, listed, tooMany}

@@ -3,7 +3,7 @@ use Rattle.message.proofs.ended_by.Statement.{statement}
 use Rattle.message.proofs.ended_by.Tie as tie
 use native.Mathlib.Omega.{arith}
 use borrow.Author.Tests.{eq-eqb, ne-eqb}
-use Rattle.glyphs.specs.Characters.{newline}
+use Rattle.slices.specs.Characters.{newline}
 
 returns : tie.Need-returns
 returns c = (rw (eq-eqb (c .before .args .byte) newline (c .if1 .taken)), omega arith)

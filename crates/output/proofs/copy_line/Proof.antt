@@ -5,7 +5,7 @@ use native.Mathlib.Omega.{arith}
 use lib.ListN.{length, take}
 use lib.Seq.{length-take-le}
 use borrow.Author.Needs.{needs}
-use Rattle.glyphs.proofs.OverLaws.{so-far, byte-next, byte-end, over-one}
+use Rattle.slices.proofs.OverLaws.{so-far, byte-next, byte-end, over-one}
 use Rattle.output.proofs.copy_line.Statement.{statement}
 use Rattle.output.proofs.copy_line.Tie as tie
 

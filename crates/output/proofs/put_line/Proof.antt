@@ -4,8 +4,8 @@ use Prim.Native.Nat.{ℕ, _-_}
 use mathlib.Core.List.{List}
 use native.Mathlib.Omega.{arith}
 use lib.ListN.{length, take, drop}
-use Rattle.glyphs.specs.Joins.{over}
-use Rattle.glyphs.proofs.OverLaws.{part-room}
+use Rattle.slices.specs.Joins.{over}
+use Rattle.slices.proofs.OverLaws.{part-room}
 use Rattle.message.proofs.MessageLaws.{trim-length}
 use Rattle.message.specs.Message.{trimEnd}
 use Rattle.output.proofs.PutLaws.{puts-one, puts-over, finished-measure, finished-bytes}

@@ -7,7 +7,7 @@ use mathlib.Core.Path.{_≡_, sym, _∙_}
 use native.Mathlib.Omega.{arith}
 use lib.ListN.{drop}
 use Rattle.column.specs.Columns.{live, first}
-use Rattle.column.proofs.Front.{length-front}
+use Rattle.slices.proofs.Front.{length-front}
 use Rattle.column.proofs.Laws.{columnOf, later, later-zero, first-hit, first-miss, first-end, live-at, live-below, live-past}
 use Rattle.placing.specs.Inner.{holdsEntry}
 use Rattle.placing.proofs.PlacingLaws.{held-first, parent-column-held, parent-column-free, parent-column-last}

@@ -5,7 +5,7 @@ use Rattle.shaper.proofs.find_column_for_unallocated_node.Tie as tie
 use mathlib.Core.Path.{sym, _∙_}
 use native.Mathlib.Omega.{arith}
 use Rattle.column.specs.Columns.{live}
-use Rattle.column.proofs.Front.{length-front}
+use Rattle.slices.proofs.Front.{length-front}
 use Rattle.column.proofs.Laws.{columnOf}
 use Rattle.shaper.proofs.NodeLaws.{unallocated-plain, unallocated-first, unallocated-other, unallocated-skip, unallocated-last}
 

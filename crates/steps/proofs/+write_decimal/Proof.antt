@@ -3,8 +3,8 @@ use mathlib.Core.Path.{refl, ap, _∙_}
 use mathlib.Core.List.{[], _∷_, _++_}
 use native.Mathlib.Omega.{arith}
 use lib.ListN.{length, length-append}
-use Rattle.glyphs.specs.Joins.{over}
-use Rattle.glyphs.proofs.OverLaws.{over-one}
+use Rattle.slices.specs.Joins.{over}
+use Rattle.slices.proofs.OverLaws.{over-one}
 use Rattle.steps.specs.Steps.{decimalIn}
 use Rattle.steps.proofs.LineBytes.{decimal-none, decimal-digit, decimal-more}
 use borrow.Author.Needs.{needs}

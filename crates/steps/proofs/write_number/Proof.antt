@@ -1,7 +1,7 @@
 -- Writes some words and a number behind them, and gives the count of their bytes.
 use native.Mathlib.Omega.{arith}
 use lib.ListN.{length-append}
-use Rattle.glyphs.proofs.OverLaws.{part-written}
+use Rattle.slices.proofs.OverLaws.{part-written}
 use Rattle.steps.specs.Steps.{decimalIn, places}
 use borrow.Author.Needs.{needs}
 use Rattle.steps.proofs.write_number.Statement.{statement}

@@ -4,8 +4,8 @@ use mathlib.Core.Path.{_≡_, _∙_}
 use native.Mathlib.Omega.{arith}
 use lib.ListN.{length}
 use Rattle.column.specs.Columns.{columnLimit}
-use Rattle.glyphs.specs.Joins.{over}
-use Rattle.glyphs.proofs.OverLaws.{part-length}
+use Rattle.slices.specs.Joins.{over}
+use Rattle.slices.proofs.OverLaws.{part-length}
 use Rattle.whole_history.proofs.ShapeLaws.{cells-long, upTo, cells-none, cells-next, no-room, shape-done}
 use borrow.Author.Needs.{needs}
 use Rattle.whole_history.proofs.write_shape.Statement.{statement}

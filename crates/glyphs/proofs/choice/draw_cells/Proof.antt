@@ -11,7 +11,7 @@ use Rattle.glyphs.proofs.DrawLaws.{Drawn-front, draw-next, draw-all}
 use Rattle.glyphs.proofs.TableLaws.{entry-short, cell-short}
 use borrow.Author.Needs.{needs}
 use mathlib.Core.Path.{_∙_}
-use Rattle.glyphs.proofs.OverLaws.{part-room, part-length}
+use Rattle.slices.proofs.OverLaws.{part-room, part-length}
 
 abbrev Inv-loop : tie.InvT-loop
 Inv-loop drawn₀ table renderer row mark line width cells count at₀ i₀ drawn at i = (i ≤ count) × (count ≤ columnLimit) × (length cells ≡ columnLimit) × (520 ≤ length drawn₀) × (length drawn ≡ length drawn₀) × (at ≤ 8 * i)

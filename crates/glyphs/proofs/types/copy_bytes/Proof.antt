@@ -4,7 +4,7 @@ use Prim.Native.Nat.{_≤_, _-_}
 use native.Mathlib.Omega.{arith}
 use lib.ListN.{length}
 use borrow.Author.Needs.{needs}
-use Rattle.glyphs.proofs.OverLaws.{so-far, so-far-step, so-far-end}
+use Rattle.slices.proofs.OverLaws.{so-far, so-far-step, so-far-end}
 use Rattle.glyphs.proofs.types.copy_bytes.Statement.{statement}
 use Rattle.glyphs.proofs.types.copy_bytes.Tie as tie
 

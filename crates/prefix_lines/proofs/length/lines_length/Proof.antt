@@ -6,10 +6,10 @@ use native.Mathlib.Omega.{arith}
 use lib.ListN.{length, take}
 use Rattle.column.specs.Columns.{columnLimit}
 use Rattle.glyphs.specs.Drawing.{entry}
-use Rattle.glyphs.specs.Joins.{joins}
+use Rattle.slices.specs.Joins.{joins}
 use Rattle.glyphs.specs.Cells.{allLines}
 use Rattle.glyphs.specs.declared.types.Line.the-variants.{PostAncestry}
-use Rattle.glyphs.proofs.JoinLaws.{next-length, end-length, so-short}
+use Rattle.slices.proofs.JoinLaws.{next-length, end-length, so-short}
 use Rattle.glyphs.proofs.TableLaws.{entry-short}
 use Rattle.prefix_lines.specs.Inner.{lineText}
 use Rattle.prefix_lines.proofs.LineLaws.{line-short}

@@ -7,7 +7,7 @@ use native.Mathlib.Omega.{arith}
 use lib.ListN.{length, take, drop}
 use Rattle.glyphs.specs.Drawing.{entry, cellsText}
 use Rattle.glyphs.specs.Cells.{isPresent}
-use Rattle.glyphs.proofs.OverLaws.{part-room, part-length, part-written}
+use Rattle.slices.proofs.OverLaws.{part-room, part-length, part-written}
 use Rattle.prefix_lines.specs.Inner.{opening, frameLength}
 use Rattle.prefix_lines.proofs.LineLaws.{frame-parts, absent, present-length, line-written}
 use borrow.Author.Needs.{needs}

@@ -6,11 +6,11 @@ use native.Mathlib.Omega.{arith}
 use lib.ListN.{length, take}
 use Rattle.column.specs.Columns.{columnLimit}
 use Rattle.glyphs.specs.Drawing.{entry}
-use Rattle.glyphs.specs.Joins.{joins, over}
+use Rattle.slices.specs.Joins.{joins, over}
 use Rattle.glyphs.specs.Cells.{allLines}
 use Rattle.glyphs.specs.declared.types.Line.the-variants.{PostAncestry}
-use Rattle.glyphs.proofs.JoinLaws.{joins-within, next-length, next-over, end-length, end-over}
-use Rattle.glyphs.proofs.OverLaws.{part-room, part-length}
+use Rattle.slices.proofs.JoinLaws.{joins-within, next-length, next-over, end-length, end-over}
+use Rattle.slices.proofs.OverLaws.{part-room, part-length}
 use Rattle.prefix_lines.specs.Inner.{lineText, linesText}
 use Rattle.prefix_lines.proofs.writer.write_lines.Statement.{statement}
 use Rattle.prefix_lines.proofs.writer.write_lines.Tie as tie

@@ -2,7 +2,7 @@
 use Prim.Native.Nat.{_<_}
 use native.Mathlib.Omega.{arith}
 use lib.ListN.{length}
-use Rattle.glyphs.proofs.OverLaws.{part-room}
+use Rattle.slices.proofs.OverLaws.{part-room}
 use Rattle.message.specs.Message.{trimEnd}
 use Rattle.message.proofs.MessageLaws.{trim-length}
 use Rattle.output.proofs.PutLaws.{puts-one, puts-over}

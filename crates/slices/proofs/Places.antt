@@ -6,7 +6,7 @@ use mathlib.Core.List.{List, [], _∷_, _++_}
 use native.Mathlib.Nat.{not-suc-le-zero, le-of-suc-le-suc}
 use native.Mathlib.Omega.{arith}
 use lib.ListN.{length, getD, set}
-use Rattle.column.specs.Columns.{putWith}
+use Rattle.slices.specs.Lists.{putWith}
 
 module _ {A : Type 0} (d : A) where
   pub put-same : (l : List A) (k : ℕ) (v : A) → getD (putWith d l k v) k d ≡ v

@@ -7,8 +7,8 @@ use native.Mathlib.Numerals.{add-one}
 use native.Mathlib.Omega.{arith}
 use lib.ListN.{length, take, drop, getD, length-append, length-take, take-append-drop}
 use lib.Seq.{take-suc, take-all}
-use Rattle.glyphs.specs.Joins.{joins, over}
-use Rattle.glyphs.proofs.OverLaws.{part-written}
+use Rattle.slices.specs.Joins.{joins, over}
+use Rattle.slices.proofs.OverLaws.{part-written}
 
 module _ {A : Type 0} (f : A → List ℕ) where
   pub joins-append : (xs ys : List A) → joins f (xs ++ ys) ≡ joins f xs ++ joins f ys

@@ -1,12 +1,14 @@
 -- Laws of bytes written over the start of an output, for any bytes: what the writers' proofs cite.
 use mathlib.Core.Path.{_≡_, refl, sym, ap, _∙_}
+use mathlib.Core.Bool.{Bool, cond}
 use mathlib.Core.List.{List, [], _∷_, _++_, append-assoc, append-nil}
 use Prim.Native.Nat.{ℕ, suc, _+_, _-_, _<_, _≤_}
 use native.Mathlib.Numerals.{add-one}
 use native.Mathlib.Omega.{arith}
 use lib.ListN.{length, take, drop, getD, set, length-append, length-drop, length-take, drop-of-length-le}
 use lib.Seq.{take-append-seam, drop-append-seam, drop-drop, take-suc, drop-cons, set-at, length-take-le, take-length, take-all, getD-take}
-use Rattle.glyphs.specs.Joins.{over}
+use borrow.Author.Tests.{le-leb, lt-leb}
+use Rattle.slices.specs.Joins.{over, Writes}
 
 -- the first i bytes of bs over the start of d: a byte loop's invariant
 abbrev pub so-far : List ℕ → ℕ → List ℕ → List ℕ
@@ -65,3 +67,21 @@ module _ (bytes d : List ℕ) (n i : ℕ) (few : n ≤ length bytes) {o : List �
 
   pub byte-end : n ≤ i → i ≤ n → o ≡ over (take n bytes) d
   byte-end h k = let m : length (take n bytes) ≡ n = length-take-le n bytes few in so-far-end (take n bytes) d i e (omega arith)
+
+-- ---- all bytes where they fit, else none
+module _ (bs before after : List ℕ) (r : ℕ) where
+  pub writes-all : length bs ≤ length before → r ≡ length bs → after ≡ over bs before → Writes bs before after r
+  writes-all h e f = record { count = rw (le-leb (length bs) (length before) h) e; output = rw (le-leb (length bs) (length before) h) f }
+
+  pub writes-none : length before < length bs → r ≡ 0 → after ≡ before → Writes bs before after r
+  writes-none h e f = record { count = rw (lt-leb (length bs) (length before) h) e; output = rw (lt-leb (length bs) (length before) h) f }
+
+  pub wrote-count : Writes bs before after r → length bs ≤ length before → r ≡ length bs
+  wrote-count w h = w .count ∙ ap (λ (b : Bool). cond b (length bs) 0) (le-leb (length bs) (length before) h)
+
+  pub wrote : Writes bs before after r → length bs ≤ length before → after ≡ over bs before
+  wrote w h = w .output ∙ ap (λ (b : Bool). cond b (over bs before) before) (le-leb (length bs) (length before) h)
+
+-- all of some bytes over the start
+pub copied-over : (bs d : List ℕ) → take (length bs) bs ++ drop (length bs) d ≡ over bs d
+copied-over bs d = ap (λ (l : List ℕ). l ++ drop (length bs) d) (take-length bs)

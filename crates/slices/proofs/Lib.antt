@@ -1,0 +1,4 @@
+pub mod Front
+pub mod JoinLaws
+pub mod OverLaws
+pub mod Places
