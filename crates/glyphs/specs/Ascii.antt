@@ -3,19 +3,11 @@ use Prim.Native.Nat.{ℕ}
 use mathlib.Core.Bool.{cond, not, _&&_}
 use mathlib.Core.List.{List, [], _∷_}
 use Rattle.render.specs.declared.render.LinkLine.{LinkLine}
-use Rattle.render.specs.declared.render.NodeLine.{NodeLine}
-use Rattle.render.specs.declared.render.NodeLine.the-variants as node
-use Rattle.render.specs.declared.render.PadLine.{PadLine}
-use Rattle.render.specs.declared.render.PadLine.the-variants as pad
-use Rattle.render.specs.declared.types.Cell.{Cell}
 use Rattle.render.specs.declared.types.DashStyle.{DashStyle}
 use Rattle.render.specs.declared.types.DashStyle.the-variants.{Persistent, Once}
-use Rattle.render.specs.Lines.{nodeToPad, footPad}
 use Rattle.render.specs.Link.{meets, joined}
 use Rattle.glyphs.specs.declared.types.Choice.{Choice}
 use Rattle.glyphs.specs.declared.types.Choice.the-variants.{Space, Solid, Dashed, Mark, End, Two, Three, Glyph}
-use Rattle.glyphs.specs.declared.types.Line.{Line}
-use Rattle.glyphs.specs.declared.types.Line.the-variants.{PreNode, Node, PostNode, Link, SecondLink, Term, SecondTerm, Ancestry, PostAncestry}
 use Rattle.glyphs.specs.declared.types.Place.{Place}
 use Rattle.glyphs.specs.declared.types.Row.{Row}
 use Rattle.slices.specs.Characters.{blank, quote, plus, minus, dot, slash, colon, backslash, bar, tilde}
@@ -25,23 +17,6 @@ use Rattle.glyphs.specs.Marks.{horizontal, vertical, vertParent, leftFor
 abbrev pub ancestor : DashStyle → ℕ
 ancestor Persistent = dot
 ancestor Once = colon
-
--- `render_pad_text`
-abbrev pub padChoice : PadLine → Choice
-padChoice pad.Parent = Solid
-padChoice pad.Ancestor = Dashed
-padChoice pad.Blank = Space
-
--- the node line's cell
-abbrev pub nodeChoice : NodeLine → Choice
-nodeChoice node.Node = Mark
-nodeChoice node.Parent = Solid
-nodeChoice node.Ancestor = Dashed
-nodeChoice node.Blank = Space
-
--- a term line's cell: the line's own choice at an end, else the ancestry line's
-abbrev pub termChoice : Choice → Cell → Choice
-termChoice x c = cond (c .term) x (padChoice (c .ancestry))
 
 -- the upright of a link cell without a horizontal stroke
 unfoldable pub standing : Row → LinkLine → ℕ
@@ -64,17 +39,9 @@ connection r cur next =
     (cond (meets cur rightFork) (cond (meets next leftMerge && not (r .«any_horizontal»)) slash minus)
     blank))
 
--- what a cell is given in a line; there is no second link line
-abbrev pub choice : Row → Line → Place → Choice
-choice r PreNode p = padChoice (nodeToPad (r .«is_head») (p .cell .node))
-choice r Node p = nodeChoice (p .cell .node)
-choice r PostNode p = padChoice (nodeToPad (r .«is_root») (p .cell .node))
-choice r Link p = Two (upright r (p .cell .link)) (connection r (p .cell .link) (p .next))
-choice r SecondLink p = Space
-choice r Term p = termChoice Solid (p .cell)
-choice r SecondTerm p = termChoice End (p .cell)
-choice r Ancestry p = padChoice (p .cell .ancestry)
-choice r PostAncestry p = padChoice (footPad (r .«dash_style») (p .cell .ancestry))
+-- a link cell's choice (`link_line` in ascii.rs)
+abbrev pub link : Row → Place → Choice
+link r p = Two (upright r (p .cell .link)) (connection r (p .cell .link) (p .next))
 
 -- the bytes of a choice
 abbrev pub bytes : DashStyle → ℕ → Choice → List ℕ

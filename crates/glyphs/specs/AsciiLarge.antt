@@ -4,45 +4,15 @@ use mathlib.Core.Bool.{cond}
 use mathlib.Core.List.{List, [], _∷_}
 use lib.Dec.{ltb}
 use Rattle.render.specs.declared.render.LinkLine.{LinkLine}
-use Rattle.render.specs.declared.render.NodeLine.{NodeLine}
-use Rattle.render.specs.declared.render.NodeLine.the-variants as node
-use Rattle.render.specs.declared.render.PadLine.{PadLine}
-use Rattle.render.specs.declared.render.PadLine.the-variants as pad
-use Rattle.render.specs.declared.types.Cell.{Cell}
 use Rattle.render.specs.declared.types.DashStyle.{DashStyle}
-use Rattle.render.specs.declared.types.DashStyle.the-variants.{Persistent, Once}
-use Rattle.render.specs.Lines.{nodeToPad, footPad}
 use Rattle.render.specs.Link.{meets}
 use Rattle.glyphs.specs.declared.types.Choice.{Choice}
 use Rattle.glyphs.specs.declared.types.Choice.the-variants.{Space, Solid, Dashed, Mark, End, Two, Three, Glyph}
-use Rattle.glyphs.specs.declared.types.Line.{Line}
-use Rattle.glyphs.specs.declared.types.Line.the-variants.{PreNode, Node, PostNode, Link, SecondLink, Term, SecondTerm, Ancestry, PostAncestry}
 use Rattle.glyphs.specs.declared.types.Place.{Place}
 use Rattle.glyphs.specs.declared.types.Row.{Row}
-use Rattle.slices.specs.Characters.{blank, dot, slash, colon, backslash, underscore, bar, tilde}
+use Rattle.glyphs.specs.Ascii.{ancestor}
+use Rattle.slices.specs.Characters.{blank, dot, slash, backslash, underscore, bar, tilde}
 use Rattle.glyphs.specs.Marks.{horizParent, horizAncestor, vertParent, vertAncestor, leftForkParent, leftForkAncestor, rightForkParent, rightForkAncestor, leftMergeParent, leftMergeAncestor, rightMergeParent, rightMergeAncestor, anyMerge}
-
--- the dashed upright's character (`ancestor`)
-abbrev pub ancestor : DashStyle → ℕ
-ancestor Persistent = dot
-ancestor Once = colon
-
--- `render_pad_text`
-abbrev pub padChoice : PadLine → Choice
-padChoice pad.Parent = Solid
-padChoice pad.Ancestor = Dashed
-padChoice pad.Blank = Space
-
--- the node line's cell
-abbrev pub nodeChoice : NodeLine → Choice
-nodeChoice node.Node = Mark
-nodeChoice node.Parent = Solid
-nodeChoice node.Ancestor = Dashed
-nodeChoice node.Blank = Space
-
--- a term line's cell: the line's own choice at an end, else the ancestry line's
-abbrev pub termChoice : Choice → Cell → Choice
-termChoice x c = cond (c .term) x (padChoice (c .ancestry))
 
 -- the parent's character where the cell has the parent's mark, the ancestor's where it has that one, else another
 abbrev pub stroke : LinkLine → LinkLine → LinkLine → ℕ → ℕ → ℕ → ℕ
@@ -79,17 +49,13 @@ bottomRight cur = stroke cur rightForkParent rightForkAncestor slash dot blank
 abbrev pub linked : ℕ → ℕ → ℕ → ℕ → Choice
 linked i a b c = cond (ltb 0 i) (Three a b c) (Two b c)
 
--- what a cell is given in a line
-abbrev pub choice : Row → Line → Place → Choice
-choice r PreNode p = padChoice (nodeToPad (r .«is_head») (p .cell .node))
-choice r Node p = nodeChoice (p .cell .node)
-choice r PostNode p = padChoice (nodeToPad (r .«is_root») (p .cell .node))
-choice r Link p = linked (p .index) (topLeft (p .cell .link)) (topCenter (r .«dash_style») (p .cell .link)) (topRight (p .cell .link))
-choice r SecondLink p = linked (p .index) (bottomLeft (p .cell .link)) (bottomCenter (r .«dash_style») (p .cell .link)) (bottomRight (p .cell .link))
-choice r Term p = termChoice Solid (p .cell)
-choice r SecondTerm p = termChoice End (p .cell)
-choice r Ancestry p = padChoice (p .cell .ancestry)
-choice r PostAncestry p = padChoice (footPad (r .«dash_style») (p .cell .ancestry))
+-- a cell's choice in the upper link line (`link_line` in ascii_large.rs)
+abbrev pub link : Row → Place → Choice
+link r p = linked (p .index) (topLeft (p .cell .link)) (topCenter (r .«dash_style») (p .cell .link)) (topRight (p .cell .link))
+
+-- and in the lower one
+abbrev pub secondLink : Row → Place → Choice
+secondLink r p = linked (p .index) (bottomLeft (p .cell .link)) (bottomCenter (r .«dash_style») (p .cell .link)) (bottomRight (p .cell .link))
 
 -- a blank before it in each cell but the first
 abbrev pub apart : ℕ → List ℕ → List ℕ

@@ -4,19 +4,11 @@ use mathlib.Core.Bool.{Bool, cond, not, _&&_}
 use mathlib.Core.List.{List, [], _∷_}
 use lib.Dec.{eqb}
 use Rattle.render.specs.declared.render.LinkLine.{LinkLine}
-use Rattle.render.specs.declared.render.NodeLine.{NodeLine}
-use Rattle.render.specs.declared.render.NodeLine.the-variants as node
-use Rattle.render.specs.declared.render.PadLine.{PadLine}
-use Rattle.render.specs.declared.render.PadLine.the-variants as pad
-use Rattle.render.specs.declared.types.Cell.{Cell}
 use Rattle.render.specs.declared.types.DashStyle.{DashStyle}
 use Rattle.render.specs.declared.types.DashStyle.the-variants.{Persistent, Once}
-use Rattle.render.specs.Lines.{nodeToPad, footPad}
 use Rattle.render.specs.Link.{meets, joined}
 use Rattle.glyphs.specs.declared.types.Choice.{Choice}
 use Rattle.glyphs.specs.declared.types.Choice.the-variants.{Space, Solid, Dashed, Mark, End, Two, Three, Glyph}
-use Rattle.glyphs.specs.declared.types.Line.{Line}
-use Rattle.glyphs.specs.declared.types.Line.the-variants.{PreNode, Node, PostNode, Link, SecondLink, Term, SecondTerm, Ancestry, PostAncestry}
 use Rattle.glyphs.specs.declared.types.Place.{Place}
 use Rattle.glyphs.specs.declared.types.Row.{Row}
 use Rattle.slices.specs.Characters.{blank}
@@ -27,23 +19,6 @@ use Rattle.glyphs.specs.Marks.{horizontal, vertical, vertParent, vertAnc
 abbrev pub ancestor : DashStyle → ℕ
 ancestor Persistent = ANCESTOR
 ancestor Once = ANCESTOR-ONCE
-
--- `pad_line_to_glyph`
-abbrev pub padChoice : PadLine → Choice
-padChoice pad.Parent = Solid
-padChoice pad.Ancestor = Dashed
-padChoice pad.Blank = Space
-
--- the node line's cell
-abbrev pub nodeChoice : NodeLine → Choice
-nodeChoice node.Node = Mark
-nodeChoice node.Parent = Solid
-nodeChoice node.Ancestor = Dashed
-nodeChoice node.Blank = Space
-
--- a term line's cell: the line's own choice at an end, else the ancestry line's
-abbrev pub termChoice : Choice → Cell → Choice
-termChoice x c = cond (c .term) x (padChoice (c .ancestry))
 
 -- a link cell with a horizontal stroke
 unfoldable pub across : Bool → LinkLine → ℕ
@@ -60,8 +35,8 @@ unfoldable pub between : Bool → Bool → ℕ → ℕ
 between left right other = cond left (cond right JOIN-BOTH JOIN-LEFT) (cond right JOIN-RIGHT other)
 
 -- a link cell with neither
-unfoldable pub beside : LinkLine → ℕ
-beside cur =
+unfoldable pub turning : LinkLine → ℕ
+turning cur =
     cond (meets cur leftFork && meets cur (joined leftMerge child)) JOIN-LEFT
     (cond (meets cur rightFork && meets cur (joined rightMerge child)) JOIN-RIGHT
     (cond (meets cur leftMerge && meets cur rightMerge) MERGE-BOTH
@@ -84,19 +59,11 @@ boxLink merge cur =
     (between (meets cur (joined leftMerge leftFork)) (meets cur (joined rightMerge rightFork)) PARENT)
     (cond (meets cur vertical && not (meets cur anyFork))
     (between (meets cur leftMerge) (meets cur rightMerge) (plain cur))
-    (beside cur)))
+    (turning cur)))
 
--- what a cell is given in a line; there is no second link line
-abbrev pub choice : Row → Line → Place → Choice
-choice r PreNode p = padChoice (nodeToPad (r .«is_head») (p .cell .node))
-choice r Node p = nodeChoice (p .cell .node)
-choice r PostNode p = padChoice (nodeToPad (r .«is_root») (p .cell .node))
-choice r Link p = Glyph (boxLink (r .merge) (p .cell .link))
-choice r SecondLink p = Space
-choice r Term p = termChoice Solid (p .cell)
-choice r SecondTerm p = termChoice End (p .cell)
-choice r Ancestry p = padChoice (p .cell .ancestry)
-choice r PostAncestry p = padChoice (footPad (r .«dash_style») (p .cell .ancestry))
+-- a link cell's choice (`link_line` in box_drawing.rs)
+abbrev pub link : Row → Place → Choice
+link r p = Glyph (boxLink (r .merge) (p .cell .link))
 
 -- the row's own dashed upright in place of ANCESTOR
 abbrev pub styled : DashStyle → ℕ → ℕ

@@ -3,6 +3,7 @@ use Prim.Native.Nat.{ℕ, suc}
 use mathlib.Core.Bool.{Bool, true, false, cond, _&&_}
 use mathlib.Core.List.{List, [], _∷_, _++_, map}
 use lib.ListN.{getD}
+use Rattle.render.specs.declared.types.Cell.{Cell}
 use Rattle.render.specs.declared.types.DashStyle.{DashStyle}
 use Rattle.render.specs.declared.types.RowShape.{RowShape}
 use Rattle.render.specs.Lines.{cellsOf}
@@ -16,6 +17,7 @@ use Rattle.glyphs.specs.declared.types.Row.{Row}
 use Rattle.glyphs.specs.Ascii as ascii
 use Rattle.glyphs.specs.AsciiLarge as large
 use Rattle.glyphs.specs.BoxDrawing as box
+use Rattle.glyphs.specs.Choices.{choiceWith, noChoice}
 use Rattle.glyphs.specs.GlyphSets.{noGlyphs, square, curved, dec}
 use Rattle.glyphs.specs.Row.{rowOf, places}
 
@@ -48,13 +50,29 @@ abbrev pub keep : {A : Type 0} → (A → Bool) → List A → List A
 keep t [] = []
 keep t (x ∷ xs) = cond (t x) (x ∷ keep t xs) (keep t xs)
 
+-- a link cell's choice
+abbrev pub linkChoice : Renderer → Row → Place → Choice
+linkChoice Ascii = ascii.link
+linkChoice AsciiLarge = large.link
+linkChoice Square = box.link
+linkChoice Curved = box.link
+linkChoice Dec = box.link
+
+-- a cell's choice in the second link line, which large ASCII alone has
+abbrev pub secondLinkChoice : Renderer → Row → Place → Choice
+secondLinkChoice Ascii = noChoice
+secondLinkChoice AsciiLarge = large.secondLink
+secondLinkChoice Square = noChoice
+secondLinkChoice Curved = noChoice
+secondLinkChoice Dec = noChoice
+
 -- what a cell is given
 unfoldable pub choiceOf : Renderer → Row → Line → Place → Choice
-choiceOf Ascii r l p = ascii.choice r l p
-choiceOf AsciiLarge r l p = large.choice r l p
-choiceOf Square r l p = box.choice r l p
-choiceOf Curved r l p = box.choice r l p
-choiceOf Dec r l p = box.choice r l p
+choiceOf q r l p = choiceWith (linkChoice q) (secondLinkChoice q) r l p
+
+-- what each cell of a line is given
+abbrev pub choicesOf : Renderer → Row → List Cell → Line → List Choice
+choicesOf q r cells l = map (choiceOf q r l) (places 0 cells)
 
 -- a prefix line: its kind, and what each cell is given
 pub record PrefixLine : Type 0 where
@@ -63,7 +81,7 @@ pub record PrefixLine : Type 0 where
 
 -- a line of a shape
 abbrev pub lineOf : Renderer → RowShape → Line → PrefixLine
-lineOf q g l = record { kind = l; choices = map (choiceOf q (rowOf g) l) (places 0 (cellsOf g)) }
+lineOf q g l = record { kind = l; choices = choicesOf q (rowOf g) (cellsOf g) l }
 
 -- the lines of a shape that are there, in their order
 abbrev pub lines : Renderer → RowShape → List PrefixLine
@@ -93,3 +111,7 @@ bytesOf glyphs Dec d mark i x = box.bytes glyphs d mark x
 abbrev pub joinsFrom : (ℕ → Choice → List ℕ) → ℕ → List Choice → List ℕ
 joinsFrom b i [] = []
 joinsFrom b i (x ∷ xs) = b i x ++ joinsFrom b (suc i) xs
+
+-- a line's bytes with the mark in place, for any glyphs (`render_prefix_line`, `next_prefix_lines`)
+abbrev pub lineBytes : (ℕ → List ℕ) → Renderer → DashStyle → ℕ → List Choice → List ℕ
+lineBytes glyphs q d mark xs = joinsFrom (bytesOf glyphs q d mark) 0 xs

@@ -2,8 +2,9 @@ pub mod Ascii
 pub mod AsciiLarge
 pub mod BoxDrawing
 pub mod Cells
+pub mod Choices
 pub mod GlyphSets
-pub mod Drawing
+pub mod Tables
 pub mod Inner
 pub mod Marks
 pub mod Row

@@ -10,6 +10,8 @@ use Rattle.render.specs.declared.types.RowShape.{RowShape}
 use Rattle.render.specs.Entries.{anyOf}
 use Rattle.render.specs.Lines.{cellsOf}
 use Rattle.render.specs.Link.{meets, noMarks}
+use Rattle.glyphs.specs.declared.Renderer.{Renderer}
+use Rattle.glyphs.specs.declared.types.Drawing.{Drawing}
 use Rattle.glyphs.specs.declared.types.Place.{Place}
 use Rattle.glyphs.specs.declared.types.Row.{Row}
 use Rattle.glyphs.specs.Marks.{horizontal}
@@ -41,6 +43,10 @@ rowOf g =
       «any_horizontal» = anyOf isHorizontal (cellsOf g);
       «has_indirect_ancestor» = anyOf isIndirect (cellsOf g);
     }
+
+-- what the lines of a shape are drawn from
+abbrev pub drawingOf : RowShape → Renderer → ℕ → Drawing
+drawingOf g q mark = record { renderer = q; row = rowOf g; mark = mark; cells = g .cells; width = g .width }
 
 -- "an index and the next cell, empty past the end" (01, "Rust forms and their stand-ins")
 abbrev pub firstLink : List Cell → LinkLine

@@ -1,12 +1,58 @@
 // The link line and the bytes of the ASCII renderer, after ascii.rs.
 ghost use mathlib.Core.Path.{_≡_};
-ghost use Rattle.glyphs.specs.Ascii.{ancestor, standing, upright, connection, bytes};
-ghost use Rattle.glyphs.specs.Inner.{Holds};
+ghost use mathlib.Core.List.{[]};
+ghost use Prim.Native.Nat.{ℕ};
+ghost use lib.ListN.{getD};
+ghost use Rattle.glyphs.specs.Ascii.{ancestor, standing, upright, connection};
+ghost use Rattle.glyphs.specs.Tables.{glyphAt, placeIn, uprights, connections, pairNumber, asciiNumber, asciiTable};
+use crate::table::GLYPH;
 use crate::types::Choice;
-use crate::types::Glyph;
 use crate::types::Row;
 use render::DashStyle;
 use render::LinkLine;
+
+// The number of the mark: eight uprights with four connecting characters each stand before it.
+const MARK: usize = 32;
+
+// The bytes of the table.
+pub const ASCII_TABLE: usize = (MARK + 1) * GLYPH;
+
+// The glyphs of the table: on each line the count of a glyph's bytes, and its eight places; the mark's place is left open.
+const ASCII_GLYPHS: [u8; ASCII_TABLE] = *b"\
+    \x02  \0\0\0\0\0\0\
+    \x02 -\0\0\0\0\0\0\
+    \x02 \\\0\0\0\0\0\0\
+    \x02 /\0\0\0\0\0\0\
+    \x02| \0\0\0\0\0\0\
+    \x02|-\0\0\0\0\0\0\
+    \x02|\\\0\0\0\0\0\0\
+    \x02|/\0\0\0\0\0\0\
+    \x02. \0\0\0\0\0\0\
+    \x02.-\0\0\0\0\0\0\
+    \x02.\\\0\0\0\0\0\0\
+    \x02./\0\0\0\0\0\0\
+    \x02: \0\0\0\0\0\0\
+    \x02:-\0\0\0\0\0\0\
+    \x02:\\\0\0\0\0\0\0\
+    \x02:/\0\0\0\0\0\0\
+    \x02+ \0\0\0\0\0\0\
+    \x02+-\0\0\0\0\0\0\
+    \x02+\\\0\0\0\0\0\0\
+    \x02+/\0\0\0\0\0\0\
+    \x02- \0\0\0\0\0\0\
+    \x02--\0\0\0\0\0\0\
+    \x02-\\\0\0\0\0\0\0\
+    \x02-/\0\0\0\0\0\0\
+    \x02' \0\0\0\0\0\0\
+    \x02'-\0\0\0\0\0\0\
+    \x02'\\\0\0\0\0\0\0\
+    \x02'/\0\0\0\0\0\0\
+    \x02~ \0\0\0\0\0\0\
+    \x02~-\0\0\0\0\0\0\
+    \x02~\\\0\0\0\0\0\0\
+    \x02~/\0\0\0\0\0\0\
+    \x02\0 \0\0\0\0\0\0\
+";
 
 // The marks that make a horizontal stroke a crossing.
 const CHILD_FORK_OR_MERGE: LinkLine = LinkLine {
@@ -81,18 +127,64 @@ pub(crate) fn link_connection(row: Row, cur: LinkLine, next: LinkLine) -> u8
     }
 }
 
-// The bytes of a choice.
-pub(crate) fn glyph(choice: Choice, dash_style: DashStyle, mark: u8) -> Glyph
-    ensures { λ r. ⌜ Holds r (bytes «dash_style» mark choice) ⌝ }
+// The number of an upright, or of another first character of a cell, past the last where it is none.
+fn upright_number(character: u8) -> usize
+    ensures { λ r. ⌜ r ≡ placeIn uprights character ⌝ }
+{
+    match character {
+        b' ' => 0,
+        b'|' => 1,
+        b'.' => 2,
+        b':' => 3,
+        b'+' => 4,
+        b'-' => 5,
+        b'\'' => 6,
+        b'~' => 7,
+        _ => 8,
+    }
+}
+
+// The number of a connecting character, past the last where it is none.
+fn connection_number(character: u8) -> usize
+    ensures { λ r. ⌜ r ≡ placeIn connections character ⌝ }
+{
+    match character {
+        b' ' => 0,
+        b'-' => 1,
+        b'\\' => 2,
+        b'/' => 3,
+        _ => 4,
+    }
+}
+
+// The number of two characters in the table.
+fn pair_number(upright: u8, connection: u8) -> usize
+    ensures { λ r. ⌜ r ≡ pairNumber upright connection ⌝ }
+{
+    4 * upright_number(upright) + connection_number(connection)
+}
+
+// The number of a choice in the table, past the last where it has none.
+pub(crate) fn number(choice: Choice, dash_style: DashStyle) -> usize
+    ensures { λ r. ⌜ r ≡ asciiNumber «dash_style» choice ⌝ }
 {
     match choice {
-        Choice::Space => Glyph::two(b' ', b' '),
-        Choice::Solid => Glyph::two(b'|', b' '),
-        Choice::Dashed => Glyph::two(dash(dash_style), b' '),
-        Choice::Mark => Glyph::two(mark, b' '),
-        Choice::End => Glyph::two(b'~', b' '),
-        Choice::Two(a, b) => Glyph::two(a, b),
-        Choice::Three(_, _, _) => Glyph::none(),
-        Choice::Glyph(_) => Glyph::none(),
+        Choice::Space => pair_number(b' ', b' '),
+        Choice::Solid => pair_number(b'|', b' '),
+        Choice::Dashed => pair_number(dash(dash_style), b' '),
+        Choice::Mark => MARK,
+        Choice::End => pair_number(b'~', b' '),
+        Choice::Two(a, b) => pair_number(a, b),
+        Choice::Three(_, _, _) => MARK + 1,
+        Choice::Glyph(_) => MARK + 1,
     }
+}
+
+// The table of the ASCII renderer, with the mark in its place.
+pub fn ascii_table(mark: u8) -> [u8; ASCII_TABLE]
+    ensures { λ r. ⌜ ((n : ℕ) → glyphAt r n ≡ getD (asciiTable mark) n []) ⌝ }
+{
+    let mut table = ASCII_GLYPHS;
+    table[MARK * GLYPH + 1] = mark;
+    table
 }

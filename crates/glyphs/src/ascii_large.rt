@@ -1,14 +1,212 @@
 // The link lines and the bytes of the large ASCII renderer, after ascii_large.rs.
 ghost use mathlib.Core.Path.{_≡_};
-ghost use mathlib.Core.List.{[], _∷_};
-ghost use Rattle.glyphs.specs.AsciiLarge.{stroke, level, topLeft, lying, topCenter, topRight, bottomLeft, bottomCenter, bottomRight, linked, apart, bytes};
-ghost use Rattle.slices.specs.Characters.{blank};
-ghost use Rattle.glyphs.specs.Inner.{Holds};
+ghost use mathlib.Core.Bool.{cond};
+ghost use mathlib.Core.List.{[]};
+ghost use Prim.Native.Nat.{ℕ};
+ghost use lib.Dec.{ltb};
+ghost use lib.ListN.{getD};
+ghost use Rattle.glyphs.specs.AsciiLarge.{stroke, level, topLeft, lying, topCenter, topRight, bottomLeft, bottomCenter, bottomRight, linked};
+ghost use Rattle.glyphs.specs.Tables.{glyphAt, placeIn, lefts, centers, rights, firstNumber, threeNumber, apartNumber, largeNumber, largeTable};
 use crate::ascii::dash;
+use crate::table::GLYPH;
 use crate::types::Choice;
-use crate::types::Glyph;
 use render::DashStyle;
 use render::LinkLine;
+
+// The number of the first cell's first two characters: five left characters with six centers and five right ones each stand before it.
+const FIRST: usize = 150;
+
+// The number of the mark, which stands behind them.
+const MARK: usize = 180;
+
+// The bytes of the table.
+pub const LARGE_TABLE: usize = (MARK + 2) * GLYPH;
+
+// The glyphs of the table: on each line the count of a glyph's bytes, and its eight places; the mark's places are left open.
+const LARGE_GLYPHS: [u8; LARGE_TABLE] = *b"\
+    \x03   \0\0\0\0\0\
+    \x03  \\\0\0\0\0\0\
+    \x03  .\0\0\0\0\0\
+    \x03  _\0\0\0\0\0\
+    \x03  /\0\0\0\0\0\
+    \x03 | \0\0\0\0\0\
+    \x03 |\\\0\0\0\0\0\
+    \x03 |.\0\0\0\0\0\
+    \x03 |_\0\0\0\0\0\
+    \x03 |/\0\0\0\0\0\
+    \x03 . \0\0\0\0\0\
+    \x03 .\\\0\0\0\0\0\
+    \x03 ..\0\0\0\0\0\
+    \x03 ._\0\0\0\0\0\
+    \x03 ./\0\0\0\0\0\
+    \x03 : \0\0\0\0\0\
+    \x03 :\\\0\0\0\0\0\
+    \x03 :.\0\0\0\0\0\
+    \x03 :_\0\0\0\0\0\
+    \x03 :/\0\0\0\0\0\
+    \x03 _ \0\0\0\0\0\
+    \x03 _\\\0\0\0\0\0\
+    \x03 _.\0\0\0\0\0\
+    \x03 __\0\0\0\0\0\
+    \x03 _/\0\0\0\0\0\
+    \x03 ~ \0\0\0\0\0\
+    \x03 ~\\\0\0\0\0\0\
+    \x03 ~.\0\0\0\0\0\
+    \x03 ~_\0\0\0\0\0\
+    \x03 ~/\0\0\0\0\0\
+    \x03/  \0\0\0\0\0\
+    \x03/ \\\0\0\0\0\0\
+    \x03/ .\0\0\0\0\0\
+    \x03/ _\0\0\0\0\0\
+    \x03/ /\0\0\0\0\0\
+    \x03/| \0\0\0\0\0\
+    \x03/|\\\0\0\0\0\0\
+    \x03/|.\0\0\0\0\0\
+    \x03/|_\0\0\0\0\0\
+    \x03/|/\0\0\0\0\0\
+    \x03/. \0\0\0\0\0\
+    \x03/.\\\0\0\0\0\0\
+    \x03/..\0\0\0\0\0\
+    \x03/._\0\0\0\0\0\
+    \x03/./\0\0\0\0\0\
+    \x03/: \0\0\0\0\0\
+    \x03/:\\\0\0\0\0\0\
+    \x03/:.\0\0\0\0\0\
+    \x03/:_\0\0\0\0\0\
+    \x03/:/\0\0\0\0\0\
+    \x03/_ \0\0\0\0\0\
+    \x03/_\\\0\0\0\0\0\
+    \x03/_.\0\0\0\0\0\
+    \x03/__\0\0\0\0\0\
+    \x03/_/\0\0\0\0\0\
+    \x03/~ \0\0\0\0\0\
+    \x03/~\\\0\0\0\0\0\
+    \x03/~.\0\0\0\0\0\
+    \x03/~_\0\0\0\0\0\
+    \x03/~/\0\0\0\0\0\
+    \x03.  \0\0\0\0\0\
+    \x03. \\\0\0\0\0\0\
+    \x03. .\0\0\0\0\0\
+    \x03. _\0\0\0\0\0\
+    \x03. /\0\0\0\0\0\
+    \x03.| \0\0\0\0\0\
+    \x03.|\\\0\0\0\0\0\
+    \x03.|.\0\0\0\0\0\
+    \x03.|_\0\0\0\0\0\
+    \x03.|/\0\0\0\0\0\
+    \x03.. \0\0\0\0\0\
+    \x03..\\\0\0\0\0\0\
+    \x03...\0\0\0\0\0\
+    \x03.._\0\0\0\0\0\
+    \x03../\0\0\0\0\0\
+    \x03.: \0\0\0\0\0\
+    \x03.:\\\0\0\0\0\0\
+    \x03.:.\0\0\0\0\0\
+    \x03.:_\0\0\0\0\0\
+    \x03.:/\0\0\0\0\0\
+    \x03._ \0\0\0\0\0\
+    \x03._\\\0\0\0\0\0\
+    \x03._.\0\0\0\0\0\
+    \x03.__\0\0\0\0\0\
+    \x03._/\0\0\0\0\0\
+    \x03.~ \0\0\0\0\0\
+    \x03.~\\\0\0\0\0\0\
+    \x03.~.\0\0\0\0\0\
+    \x03.~_\0\0\0\0\0\
+    \x03.~/\0\0\0\0\0\
+    \x03_  \0\0\0\0\0\
+    \x03_ \\\0\0\0\0\0\
+    \x03_ .\0\0\0\0\0\
+    \x03_ _\0\0\0\0\0\
+    \x03_ /\0\0\0\0\0\
+    \x03_| \0\0\0\0\0\
+    \x03_|\\\0\0\0\0\0\
+    \x03_|.\0\0\0\0\0\
+    \x03_|_\0\0\0\0\0\
+    \x03_|/\0\0\0\0\0\
+    \x03_. \0\0\0\0\0\
+    \x03_.\\\0\0\0\0\0\
+    \x03_..\0\0\0\0\0\
+    \x03_._\0\0\0\0\0\
+    \x03_./\0\0\0\0\0\
+    \x03_: \0\0\0\0\0\
+    \x03_:\\\0\0\0\0\0\
+    \x03_:.\0\0\0\0\0\
+    \x03_:_\0\0\0\0\0\
+    \x03_:/\0\0\0\0\0\
+    \x03__ \0\0\0\0\0\
+    \x03__\\\0\0\0\0\0\
+    \x03__.\0\0\0\0\0\
+    \x03___\0\0\0\0\0\
+    \x03__/\0\0\0\0\0\
+    \x03_~ \0\0\0\0\0\
+    \x03_~\\\0\0\0\0\0\
+    \x03_~.\0\0\0\0\0\
+    \x03_~_\0\0\0\0\0\
+    \x03_~/\0\0\0\0\0\
+    \x03\\  \0\0\0\0\0\
+    \x03\\ \\\0\0\0\0\0\
+    \x03\\ .\0\0\0\0\0\
+    \x03\\ _\0\0\0\0\0\
+    \x03\\ /\0\0\0\0\0\
+    \x03\\| \0\0\0\0\0\
+    \x03\\|\\\0\0\0\0\0\
+    \x03\\|.\0\0\0\0\0\
+    \x03\\|_\0\0\0\0\0\
+    \x03\\|/\0\0\0\0\0\
+    \x03\\. \0\0\0\0\0\
+    \x03\\.\\\0\0\0\0\0\
+    \x03\\..\0\0\0\0\0\
+    \x03\\._\0\0\0\0\0\
+    \x03\\./\0\0\0\0\0\
+    \x03\\: \0\0\0\0\0\
+    \x03\\:\\\0\0\0\0\0\
+    \x03\\:.\0\0\0\0\0\
+    \x03\\:_\0\0\0\0\0\
+    \x03\\:/\0\0\0\0\0\
+    \x03\\_ \0\0\0\0\0\
+    \x03\\_\\\0\0\0\0\0\
+    \x03\\_.\0\0\0\0\0\
+    \x03\\__\0\0\0\0\0\
+    \x03\\_/\0\0\0\0\0\
+    \x03\\~ \0\0\0\0\0\
+    \x03\\~\\\0\0\0\0\0\
+    \x03\\~.\0\0\0\0\0\
+    \x03\\~_\0\0\0\0\0\
+    \x03\\~/\0\0\0\0\0\
+    \x02  \0\0\0\0\0\0\
+    \x02 \\\0\0\0\0\0\0\
+    \x02 .\0\0\0\0\0\0\
+    \x02 _\0\0\0\0\0\0\
+    \x02 /\0\0\0\0\0\0\
+    \x02| \0\0\0\0\0\0\
+    \x02|\\\0\0\0\0\0\0\
+    \x02|.\0\0\0\0\0\0\
+    \x02|_\0\0\0\0\0\0\
+    \x02|/\0\0\0\0\0\0\
+    \x02. \0\0\0\0\0\0\
+    \x02.\\\0\0\0\0\0\0\
+    \x02..\0\0\0\0\0\0\
+    \x02._\0\0\0\0\0\0\
+    \x02./\0\0\0\0\0\0\
+    \x02: \0\0\0\0\0\0\
+    \x02:\\\0\0\0\0\0\0\
+    \x02:.\0\0\0\0\0\0\
+    \x02:_\0\0\0\0\0\0\
+    \x02:/\0\0\0\0\0\0\
+    \x02_ \0\0\0\0\0\0\
+    \x02_\\\0\0\0\0\0\0\
+    \x02_.\0\0\0\0\0\0\
+    \x02__\0\0\0\0\0\0\
+    \x02_/\0\0\0\0\0\0\
+    \x02~ \0\0\0\0\0\0\
+    \x02~\\\0\0\0\0\0\0\
+    \x02~.\0\0\0\0\0\0\
+    \x02~_\0\0\0\0\0\0\
+    \x02~/\0\0\0\0\0\0\
+    \x03 \0 \0\0\0\0\0\
+    \x02\0 \0\0\0\0\0\0\
+";
 
 // One character where the cell has the parent's mark, one where it has the ancestor's, else another.
 fn pick(cur: LinkLine, parent: LinkLine, ancestor: LinkLine, solid: u8, dashed: u8, other: u8) -> u8
@@ -167,29 +365,103 @@ pub(crate) fn bottom(dash_style: DashStyle, index: usize, cur: LinkLine) -> Choi
     )
 }
 
-// A character and a blank, with a blank before them in each cell but the first.
-fn spaced(index: usize, character: u8) -> Glyph
-    ensures { λ r. ⌜ Holds r (apart index (character ∷ blank ∷ [])) ⌝ }
+// The number of a left character, past the last where it is none.
+fn left_number(character: u8) -> usize
+    ensures { λ r. ⌜ r ≡ placeIn lefts character ⌝ }
 {
-    if 0 < index {
-        Glyph::three(b' ', character, b' ')
-    } else {
-        Glyph::two(character, b' ')
+    match character {
+        b' ' => 0,
+        b'/' => 1,
+        b'.' => 2,
+        b'_' => 3,
+        b'\\' => 4,
+        _ => 5,
     }
 }
 
-// The bytes of a choice in a cell.
-pub(crate) fn glyph(choice: Choice, dash_style: DashStyle, mark: u8, index: usize) -> Glyph
-    ensures { λ r. ⌜ Holds r (bytes «dash_style» mark index choice) ⌝ }
+// The number of a center, past the last where it is none.
+fn center_number(character: u8) -> usize
+    ensures { λ r. ⌜ r ≡ placeIn centers character ⌝ }
+{
+    match character {
+        b' ' => 0,
+        b'|' => 1,
+        b'.' => 2,
+        b':' => 3,
+        b'_' => 4,
+        b'~' => 5,
+        _ => 6,
+    }
+}
+
+// The number of a right character, past the last where it is none.
+fn right_number(character: u8) -> usize
+    ensures { λ r. ⌜ r ≡ placeIn rights character ⌝ }
+{
+    match character {
+        b' ' => 0,
+        b'\\' => 1,
+        b'.' => 2,
+        b'_' => 3,
+        b'/' => 4,
+        _ => 5,
+    }
+}
+
+// The number of two characters of the first cell.
+fn first_number(center: u8, right: u8) -> usize
+    ensures { λ r. ⌜ r ≡ firstNumber center right ⌝ }
+{
+    FIRST + (5 * center_number(center) + right_number(right))
+}
+
+// The number of three characters.
+fn three_number(left: u8, center: u8, right: u8) -> usize
+    ensures { λ r. ⌜ r ≡ threeNumber left center right ⌝ }
+{
+    30 * left_number(left) + (5 * center_number(center) + right_number(right))
+}
+
+// The number of a character and a blank, with a blank before them in each cell but the first.
+fn apart_number(index: usize, character: u8) -> usize
+    ensures { λ r. ⌜ r ≡ apartNumber index character ⌝ }
+{
+    if 0 < index {
+        three_number(b' ', character, b' ')
+    } else {
+        first_number(character, b' ')
+    }
+}
+
+// The number of the mark.
+fn mark_number(index: usize) -> usize
+    ensures { λ r. ⌜ r ≡ cond (ltb 0 index) 180 181 ⌝ }
+{
+    if 0 < index { MARK } else { MARK + 1 }
+}
+
+// The number of a cell's choice in the table, past the last where it has none.
+pub(crate) fn number(choice: Choice, dash_style: DashStyle, index: usize) -> usize
+    ensures { λ r. ⌜ r ≡ largeNumber «dash_style» index choice ⌝ }
 {
     match choice {
-        Choice::Space => spaced(index, b' '),
-        Choice::Solid => spaced(index, b'|'),
-        Choice::Dashed => spaced(index, dash(dash_style)),
-        Choice::Mark => spaced(index, mark),
-        Choice::End => spaced(index, b'~'),
-        Choice::Two(a, b) => Glyph::two(a, b),
-        Choice::Three(a, b, c) => Glyph::three(a, b, c),
-        Choice::Glyph(_) => Glyph::none(),
+        Choice::Space => apart_number(index, b' '),
+        Choice::Solid => apart_number(index, b'|'),
+        Choice::Dashed => apart_number(index, dash(dash_style)),
+        Choice::Mark => mark_number(index),
+        Choice::End => apart_number(index, b'~'),
+        Choice::Two(b, c) => first_number(b, c),
+        Choice::Three(a, b, c) => three_number(a, b, c),
+        Choice::Glyph(_) => MARK + 2,
     }
+}
+
+// The table of the large ASCII renderer, with the mark in its places.
+pub fn large_table(mark: u8) -> [u8; LARGE_TABLE]
+    ensures { λ r. ⌜ ((n : ℕ) → glyphAt r n ≡ getD (largeTable mark) n []) ⌝ }
+{
+    let mut table = LARGE_GLYPHS;
+    table[MARK * GLYPH + 2] = mark;
+    table[(MARK + 1) * GLYPH + 1] = mark;
+    table
 }

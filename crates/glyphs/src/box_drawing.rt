@@ -1,13 +1,14 @@
 // The glyph sets, the link line and the bytes of the box drawing renderers, after box_drawing.rs.
 ghost use mathlib.Core.Path.{_≡_};
-ghost use Prim.Native.Nat.{_+_, _≤_, min};
-ghost use lib.ListN.{length};
-ghost use Rattle.glyphs.specs.BoxDrawing.{ancestor, across, between, beside, plain, boxLink, styled, bytes};
-ghost use Rattle.glyphs.specs.Inner.{Holds, Placed, glyphNumber};
-ghost use Rattle.glyphs.specs.Drawing.{entry};
+ghost use mathlib.Core.List.{[]};
+ghost use Prim.Native.Nat.{ℕ};
+ghost use lib.ListN.{getD, set};
+ghost use Rattle.glyphs.specs.BoxDrawing.{ancestor, across, between, turning, plain, boxLink, styled};
+ghost use Rattle.glyphs.specs.Cells.{glyphsOf};
+ghost use Rattle.glyphs.specs.Tables.{glyphAt, boxNumber, boxTable};
+use crate::Renderer;
+use crate::table::GLYPH;
 use crate::types::Choice;
-use crate::types::Glyph;
-use crate::types::place_glyph;
 use render::DashStyle;
 use render::LinkLine;
 
@@ -42,16 +43,14 @@ const TERMINATION: usize = 13;
 
 const ANCESTOR_ONCE: usize = 14;
 
-const COUNT: usize = 15;
-
-// The bytes of a glyph in a table: a count, and eight places.
-const ENTRY: usize = 9;
+// The number of the mark, which stands behind them.
+const MARK: usize = 15;
 
 // The bytes of a table.
-pub const TABLE: usize = COUNT * ENTRY;
+pub const BOX_TABLE: usize = (MARK + 1) * GLYPH;
 
-// The glyphs of each set: on each line the count of a glyph's bytes, and its eight places.
-pub(crate) const SQUARE_GLYPHS: [u8; TABLE] = *b"\
+// The glyphs of each set: on each line the count of a glyph's bytes, and its eight places; the mark's place is left open.
+const SQUARE_GLYPHS: [u8; BOX_TABLE] = *b"\
     \x02  \0\0\0\0\0\0\
     \x06\xe2\x94\x80\xe2\x94\x80\0\0\
     \x04\xe2\x94\x82 \0\0\0\0\
@@ -67,9 +66,10 @@ pub(crate) const SQUARE_GLYPHS: [u8; TABLE] = *b"\
     \x06\xe2\x94\xbc\xe2\x94\x80\0\0\
     \x02~ \0\0\0\0\0\0\
     \x04\xe2\x94\x86 \0\0\0\0\
+    \x02\0 \0\0\0\0\0\0\
 ";
 
-pub(crate) const CURVED_GLYPHS: [u8; TABLE] = *b"\
+const CURVED_GLYPHS: [u8; BOX_TABLE] = *b"\
     \x02  \0\0\0\0\0\0\
     \x06\xe2\x94\x80\xe2\x94\x80\0\0\
     \x04\xe2\x94\x82 \0\0\0\0\
@@ -85,9 +85,10 @@ pub(crate) const CURVED_GLYPHS: [u8; TABLE] = *b"\
     \x06\xe2\x94\xbc\xe2\x94\x80\0\0\
     \x02~ \0\0\0\0\0\0\
     \x04\xe2\x94\x86 \0\0\0\0\
+    \x02\0 \0\0\0\0\0\0\
 ";
 
-pub(crate) const DEC_GLYPHS: [u8; TABLE] = *b"\
+const DEC_GLYPHS: [u8; BOX_TABLE] = *b"\
     \x02  \0\0\0\0\0\0\
     \x08\x1b(0qq\x1b(B\
     \x08\x1b(0x \x1b(B\
@@ -103,6 +104,26 @@ pub(crate) const DEC_GLYPHS: [u8; TABLE] = *b"\
     \x08\x1b(0nq\x1b(B\
     \x02~ \0\0\0\0\0\0\
     \x02: \0\0\0\0\0\0\
+    \x02\0 \0\0\0\0\0\0\
+";
+
+const NO_GLYPHS: [u8; BOX_TABLE] = *b"\
+    \0\0\0\0\0\0\0\0\0\
+    \0\0\0\0\0\0\0\0\0\
+    \0\0\0\0\0\0\0\0\0\
+    \0\0\0\0\0\0\0\0\0\
+    \0\0\0\0\0\0\0\0\0\
+    \0\0\0\0\0\0\0\0\0\
+    \0\0\0\0\0\0\0\0\0\
+    \0\0\0\0\0\0\0\0\0\
+    \0\0\0\0\0\0\0\0\0\
+    \0\0\0\0\0\0\0\0\0\
+    \0\0\0\0\0\0\0\0\0\
+    \0\0\0\0\0\0\0\0\0\
+    \0\0\0\0\0\0\0\0\0\
+    \0\0\0\0\0\0\0\0\0\
+    \0\0\0\0\0\0\0\0\0\
+    \x02\0 \0\0\0\0\0\0\
 ";
 
 // The unions of marks that the link line asks for.
@@ -169,7 +190,7 @@ fn vertical_link(left: bool, right: bool, plain: usize) -> usize
 
 // A link cell with neither.
 fn other_link(cur: LinkLine) -> usize
-    ensures { λ r. ⌜ r ≡ beside cur ⌝ }
+    ensures { λ r. ⌜ r ≡ turning cur ⌝ }
 {
     let left_fork = cur.intersects(LinkLine::LEFT_FORK);
     let right_fork = cur.intersects(LinkLine::RIGHT_FORK);
@@ -226,39 +247,6 @@ pub(crate) fn link_glyph(merge: bool, cur: LinkLine) -> usize
     }
 }
 
-// A count, read as at most eight.
-fn at_most_eight(count: u8) -> usize
-    ensures { λ r. ⌜ r ≡ min count 8 ⌝ }
-{
-    if count < 8 {
-        return count as usize;
-    }
-    8
-}
-
-// A glyph of a table; none past the last.
-fn glyph_at(table: &[u8; TABLE], n: usize) -> Glyph
-    ensures { λ r. ⌜ Holds r (entry (now (table .entry)) n) ⌝ }
-{
-    if COUNT <= n {
-        return Glyph::none();
-    }
-    let from = n * ENTRY;
-    Glyph {
-        bytes: [
-            table[from + 1],
-            table[from + 2],
-            table[from + 3],
-            table[from + 4],
-            table[from + 5],
-            table[from + 6],
-            table[from + 7],
-            table[from + 8],
-        ],
-        length: at_most_eight(table[from]),
-    }
-}
-
 // The row's own dashed upright in place of ANCESTOR.
 fn own_dash(dash_style: DashStyle, n: usize) -> usize
     ensures { λ r. ⌜ r ≡ styled «dash_style» n ⌝ }
@@ -270,34 +258,39 @@ fn own_dash(dash_style: DashStyle, n: usize) -> usize
 }
 
 // The number of the glyph that a choice is drawn by, past the last where there is none.
-fn glyph_number(choice: Choice, dash_style: DashStyle) -> usize
-    ensures { λ r. ⌜ r ≡ glyphNumber «dash_style» choice ⌝ }
+pub(crate) fn number(choice: Choice, dash_style: DashStyle) -> usize
+    ensures { λ r. ⌜ r ≡ boxNumber «dash_style» choice ⌝ }
 {
     match choice {
         Choice::Space => SPACE,
         Choice::Solid => PARENT,
         Choice::Dashed => dashed(dash_style),
-        Choice::Mark => COUNT,
+        Choice::Mark => MARK,
         Choice::End => TERMINATION,
-        Choice::Two(_, _) => COUNT,
-        Choice::Three(_, _, _) => COUNT,
+        Choice::Two(_, _) => MARK + 1,
+        Choice::Three(_, _, _) => MARK + 1,
         Choice::Glyph(n) => own_dash(dash_style, n),
     }
 }
 
-// Writes the bytes of a choice from `at` on, by eight places, and gives their count.
-pub(crate) fn place_choice(
-    drawn: &mut [u8],
-    table: &[u8; TABLE],
-    choice: Choice,
-    dash_style: DashStyle,
-    mark: u8,
-) -> usize
-    requires { ⌜ 8 ≤ length (now drawn) ⌝ }
-    ensures { λ r. ⌜ Placed (bytes (entry (now (table .entry))) «dash_style» mark choice) (now (drawn .exit)) r ⌝ }
+// The glyphs of a renderer; the ASCII ones have none.
+fn glyphs(renderer: Renderer) -> [u8; BOX_TABLE]
+    ensures { λ r. ⌜ ((m : ℕ) (n : ℕ) → glyphAt (set r 136 m) n ≡ getD (boxTable (glyphsOf renderer) m) n []) ⌝ }
 {
-    let Choice::Mark = choice else {
-        return place_glyph(drawn, glyph_at(table, glyph_number(choice, dash_style)));
-    };
-    place_glyph(drawn, Glyph::two(mark, b' '))
+    match renderer {
+        Renderer::Ascii => NO_GLYPHS,
+        Renderer::AsciiLarge => NO_GLYPHS,
+        Renderer::Square => SQUARE_GLYPHS,
+        Renderer::Curved => CURVED_GLYPHS,
+        Renderer::Dec => DEC_GLYPHS,
+    }
+}
+
+// The table of a box drawing renderer, with the mark in its place.
+pub fn box_table(renderer: Renderer, mark: u8) -> [u8; BOX_TABLE]
+    ensures { λ r. ⌜ ((n : ℕ) → glyphAt r n ≡ getD (boxTable (glyphsOf renderer) mark) n []) ⌝ }
+{
+    let mut table = glyphs(renderer);
+    table[MARK * GLYPH + 1] = mark;
+    table
 }

@@ -1,25 +1,25 @@
-// What each cell is given in each line, and its bytes, in all renderers.
+// What each cell is given in each line, and the number by which it is drawn, in all renderers.
 ghost use mathlib.Core.Path.{_≡_};
-ghost use Prim.Native.Nat.{_+_, _≤_};
-ghost use lib.ListN.{length, take};
-ghost use Rattle.glyphs.specs.Ascii.{padChoice, nodeChoice, termChoice};
-ghost use Rattle.glyphs.specs.Inner.{Placed, nextIndex, nextLink};
-ghost use Rattle.glyphs.specs.Drawing.{Draw, cellBytes, cellsText, entry};
-ghost use Rattle.glyphs.specs.Cells.{choiceOf};
+ghost use Prim.Native.Nat.{_≤_};
+ghost use lib.ListN.{take};
+ghost use Rattle.column.specs.Columns.{columnLimit};
+ghost use Rattle.glyphs.specs.Cells.{linkChoice, secondLinkChoice, choiceOf};
+ghost use Rattle.glyphs.specs.Choices.{padChoice, nodeChoice, termChoice};
+ghost use Rattle.glyphs.specs.Inner.{nextIndex, nextLink};
+ghost use Rattle.glyphs.specs.Tables.{numberOf, numbersIn};
 use crate::Renderer;
 use crate::ascii;
 use crate::ascii_large;
 use crate::box_drawing;
-use crate::box_drawing::TABLE;
 use crate::row::cell_count;
 use crate::types::Choice;
-use crate::types::DRAWN;
+use crate::types::Drawing;
 use crate::types::Line;
 use crate::types::Place;
 use crate::types::Row;
-use crate::types::place_glyph;
 use column::COLUMN_LIMIT;
 use render::Cell;
+use render::DashStyle;
 use render::LinkLine;
 use render::NodeLine;
 use render::PadLine;
@@ -60,7 +60,7 @@ fn term_choice(end: Choice, cell: Cell) -> Choice
 
 // A link line's choice.
 fn link_choice(renderer: Renderer, row: Row, place: Place) -> Choice
-    ensures { λ r. ⌜ r ≡ choiceOf renderer row Line.Link place ⌝ }
+    ensures { λ r. ⌜ r ≡ linkChoice renderer row place ⌝ }
 {
     let cell = place.cell;
     let cur = cell.link;
@@ -80,7 +80,7 @@ fn link_choice(renderer: Renderer, row: Row, place: Place) -> Choice
 
 // A second link line's choice, in large ASCII alone.
 fn second_link_choice(renderer: Renderer, row: Row, place: Place) -> Choice
-    ensures { λ r. ⌜ r ≡ choiceOf renderer row Line.SecondLink place ⌝ }
+    ensures { λ r. ⌜ r ≡ secondLinkChoice renderer row place ⌝ }
 {
     let cell = place.cell;
     let cur = cell.link;
@@ -139,51 +139,34 @@ fn next_link(after: Cell, i: usize, width: usize) -> LinkLine
     LinkLine::EMPTY
 }
 
-// Writes the bytes of a cell in a line from `at` on, by eight places, and gives their count.
-fn place_cell(
-    drawn: &mut [u8],
-    table: &[u8; TABLE],
-    renderer: Renderer,
-    row: Row,
-    mark: u8,
-    line: Line,
-    place: Place,
-) -> usize
-    requires { ⌜ 8 ≤ length (now drawn) ⌝ }
-    ensures { λ r. ⌜ Placed (cellBytes (entry (now (table .entry))) renderer row mark line place) (now (drawn .exit)) r ⌝ }
+// The number by which a renderer draws what a cell was given.
+fn number_of(renderer: Renderer, dash_style: DashStyle, index: usize, choice: Choice) -> usize
+    ensures { λ r. ⌜ r ≡ numberOf renderer «dash_style» index choice ⌝ }
 {
-    let dash_style = row.dash_style;
-    let choice = cell_choice(renderer, row, line, place);
     match renderer {
-        Renderer::Ascii => place_glyph(drawn, ascii::glyph(choice, dash_style, mark)),
-        Renderer::AsciiLarge => place_glyph(
-            drawn,
-            ascii_large::glyph(choice, dash_style, mark, place.index),
-        ),
-        Renderer::Square | Renderer::Curved | Renderer::Dec => {
-            box_drawing::place_choice(drawn, table, choice, dash_style, mark)
-        }
+        Renderer::Ascii => ascii::number(choice, dash_style),
+        Renderer::AsciiLarge => ascii_large::number(choice, dash_style, index),
+        Renderer::Square | Renderer::Curved | Renderer::Dec => box_drawing::number(choice, dash_style),
     }
 }
 
-// Draws the cells of a line where there is room for any line, and gives the count of their bytes.
-pub fn draw_cells(
-    drawn: &mut [u8],
-    table: &[u8; TABLE],
-    renderer: Renderer,
-    row: Row,
-    mark: u8,
-    line: Line,
-    cells: [Cell; COLUMN_LIMIT],
-    width: usize,
-) -> usize
-    ensures { λ r. ⌜ Draw (cellsText (entry (now (table .entry))) renderer row mark (take width cells) line) (now (drawn .entry)) (now (drawn .exit)) r ⌝ }
+// The number by which a cell of a line is drawn.
+fn cell_number(renderer: Renderer, row: Row, line: Line, place: Place) -> u8
+    ensures { λ r. ⌜ r ≡ numberOf renderer (row .«dash_style») (place .index) (choiceOf renderer row line place) ⌝ }
 {
-    if drawn.len() < DRAWN {
-        return 0;
-    }
-    let count = cell_count(cells, width);
-    let mut at: usize = 0;
+    let dash_style = row.dash_style;
+    let choice = cell_choice(renderer, row, line, place);
+    number_of(renderer, dash_style, place.index, choice) as u8
+}
+
+// Chooses the glyphs of a line, a number for each cell, and gives how many cells it has.
+pub fn choose_cells(numbers: &mut [u8; COLUMN_LIMIT], drawing: Drawing, line: Line) -> usize
+    ensures { λ r. ⌜ (r ≤ columnLimit) × (take r (now (numbers .exit)) ≡ numbersIn drawing line) ⌝ }
+{
+    let renderer = drawing.renderer;
+    let row = drawing.row;
+    let cells = drawing.cells;
+    let count = cell_count(cells, drawing.width);
     let mut i: usize = 0;
     while i < count {
         let cell = cells[i];
@@ -195,8 +178,8 @@ pub fn draw_cells(
             cell,
             next,
         };
-        at += place_cell(&mut drawn[at..], table, renderer, row, mark, line, place);
+        numbers[i] = cell_number(renderer, row, line, place);
         i += 1;
     }
-    at
+    count
 }

@@ -5,8 +5,9 @@ ghost use lib.ListN.{take, getD};
 ghost use Rattle.column.specs.Columns.{columnLimit};
 ghost use Rattle.glyphs.specs.Cells.{allLines, isLarge, isPresent};
 ghost use Rattle.render.specs.Entries.{anyOf};
-ghost use Rattle.glyphs.specs.Row.{isHorizontal, isAncestor, isIndirect, rowOf};
+ghost use Rattle.glyphs.specs.Row.{isHorizontal, isAncestor, isIndirect, rowOf, drawingOf};
 use crate::Renderer;
+use crate::types::Drawing;
 use crate::types::Line;
 use crate::types::Row;
 use column::COLUMN_LIMIT;
@@ -92,6 +93,21 @@ pub fn row_of(shape: RowShape) -> Row
         term_line: shape.term_line,
         any_horizontal,
         has_indirect_ancestor,
+    }
+}
+
+// What the lines of a shape are drawn from.
+pub fn drawing_of(shape: RowShape, renderer: Renderer, mark: u8) -> Drawing
+    ensures { λ r. ⌜ r ≡ drawingOf shape renderer mark ⌝ }
+{
+    let row = row_of(shape);
+    let cells = shape.cells;
+    Drawing {
+        renderer,
+        row,
+        mark,
+        cells,
+        width: shape.width,
     }
 }
 

@@ -1,10 +1,6 @@
 // What the renderers look at and what they give each cell, after types.rs.
-ghost use mathlib.Core.Path.{_≡_};
-ghost use mathlib.Core.List.{[], _∷_};
-ghost use Prim.Native.Nat.{_≤_};
-ghost use lib.ListN.{length};
-ghost use Rattle.glyphs.specs.Inner.{Holds};
-ghost use Rattle.slices.specs.Joins.{over};
+use crate::Renderer;
+use column::COLUMN_LIMIT;
 use render::Cell;
 use render::DashStyle;
 use render::LinkLine;
@@ -61,71 +57,11 @@ pub struct Place {
     pub next: LinkLine,
 }
 
-// The bytes of one cell: the first `length` of eight.
-pub struct Glyph {
-    pub bytes: [u8; 8],
-    pub length: usize,
-}
-
-impl Glyph {
-    // No bytes.
-    pub(crate) fn none() -> Glyph
-        ensures { λ r. ⌜ Holds r [] ⌝ }
-    {
-        Glyph {
-            bytes: [0, 0, 0, 0, 0, 0, 0, 0],
-            length: 0,
-        }
-    }
-
-    // Two bytes.
-    pub(crate) fn two(a: u8, b: u8) -> Glyph
-        ensures { λ r. ⌜ Holds r (a ∷ b ∷ []) ⌝ }
-    {
-        Glyph {
-            bytes: [a, b, 0, 0, 0, 0, 0, 0],
-            length: 2,
-        }
-    }
-
-    // Three bytes.
-    pub(crate) fn three(a: u8, b: u8, c: u8) -> Glyph
-        ensures { λ r. ⌜ Holds r (a ∷ b ∷ c ∷ []) ⌝ }
-    {
-        Glyph {
-            bytes: [a, b, c, 0, 0, 0, 0, 0],
-            length: 3,
-        }
-    }
-}
-
-// The room of a drawn line: 64 cells of at most eight bytes, and eight more, as each cell is written by its eight places.
-pub const DRAWN: usize = 520;
-
-// Writes bytes at the start of an output that has room for them.
-pub fn copy_bytes(out: &mut [u8], bytes: &[u8])
-    ensures { λ r. ⌜ (length (now (bytes .entry)) ≤ length (now (out .entry)) → now (out .exit) ≡ over (now (bytes .entry)) (now (out .entry))) ⌝ }
-{
-    if out.len() < bytes.len() {
-        return;
-    }
-    let mut i: usize = 0;
-    while i < bytes.len() {
-        out[i] = bytes[i];
-        i += 1;
-    }
-}
-
-// Writes a glyph's eight places at the start of the unwritten part of a line, and gives the count of its bytes.
-pub(crate) fn place_glyph(drawn: &mut [u8], glyph: Glyph) -> usize
-    requires { ⌜ 8 ≤ length (now drawn) ⌝ }
-    ensures { λ r. ⌜ (r ≡ glyph .length) × (now (drawn .exit) ≡ over (glyph .bytes) (now (drawn .entry))) ⌝ }
-{
-    let bytes = glyph.bytes;
-    let mut i: usize = 0;
-    while i < 8 {
-        drawn[i] = bytes[i];
-        i += 1;
-    }
-    glyph.length
+// What the lines of a row are drawn from.
+pub struct Drawing {
+    pub renderer: Renderer,
+    pub row: Row,
+    pub mark: u8,
+    pub cells: [Cell; COLUMN_LIMIT],
+    pub width: usize,
 }

@@ -1,11 +1,11 @@
 -- Lines of text, their bytes and their measure, and what is kept between rows (output.rs).
-use Prim.Native.Nat.{ℕ, _+_, _≤_, max}
+use Prim.Native.Nat.{ℕ, _+_, max}
 use mathlib.Core.Path.{_≡_}
 use mathlib.Core.Bool.{Bool, cond, _&&_}
 use mathlib.Core.List.{List, [], _∷_, _++_, map}
-use lib.Dec.{eqb}
-use lib.ListN.{length, take, drop}
-use Rattle.slices.specs.Joins.{joins}
+use lib.Dec.{eqb, leb}
+use lib.ListN.{length, take}
+use Rattle.slices.specs.Joins.{joins, Writes}
 use Rattle.slices.specs.Characters.{newline}
 use Rattle.message.specs.Message.{trimEnd}
 use Rattle.output.specs.declared.TextState.{TextState}
@@ -17,7 +17,7 @@ queueLimit = 512
 
 -- ---- lines
 
--- what finishes a line: the blanks at its end go (`push_line`)
+-- what finishes a line today: the blanks at its end go (`push_line`)
 abbrev pub finish : List ℕ → List ℕ
 finish l = trimEnd l
 
@@ -53,22 +53,25 @@ pub record TextView : Type 0 where
 abbrev pub textViewOf : TextState → TextView
 textViewOf t = record { queued = cond (t .«is_queued») (take (t .«queued_length») (t .«queued_pad_line») ∷ []) []; height = t .«row_height» }
 
--- the queued line, finished (`flush_queued_pad_line`)
-abbrev pub flushed : TextView → List (List ℕ)
-flushed t = map finish (t .queued)
+-- a text state at the start: no line is queued, and no row stands above (`OutputRendererState::new`)
+abbrev pub newText : TextView
+newText = record { queued = []; height = 0 }
+
+-- the queued line, finished (`flush_queued_pad_line`); what finishes a line is an argument
+abbrev pub flushed : (List ℕ → List ℕ) → TextView → List (List ℕ)
+flushed finished t = map finished (t .queued)
 
 -- how many lines then stand above the row: those of the row before, and the queued one
 abbrev pub linesAbove : TextView → ℕ
 linesAbove t = t .height + length (t .queued)
 
 -- then a separator, if the row wants one and one line stands above it (`begin_row`)
-abbrev pub beginRow : Bool → TextView → List (List ℕ)
-beginRow separator t = flushed t ++ cond (separator && eqb (linesAbove t) 1) (finish [] ∷ []) []
+abbrev pub beginRow : (List ℕ → List ℕ) → Bool → TextView → List (List ℕ)
+beginRow finished separator t = flushed finished t ++ cond (separator && eqb (linesAbove t) 1) (finished [] ∷ []) []
 
 -- ---- what the writers promise
 
--- the count of the lines' bytes; where they fit from `at` on, they stand there and nowhere else, and the measure is theirs
-pub record Puts (ls : List (List ℕ)) (at : ℕ) (before after : List ℕ) (r : Put) : Type 0 where
-  pub count : r .length ≡ length (textOf ls)
-  pub bytes : at + length (textOf ls) ≤ length before → after ≡ take at before ++ (textOf ls ++ drop (at + length (textOf ls)) before)
-  pub measure : at + length (textOf ls) ≤ length before → r .measure ≡ lineMeasure ls
+-- lines written at the start of an output: all of them where they fit, and the measure of the longest; else nothing is written, and both are 0
+pub record Puts (ls : List (List ℕ)) (before after : List ℕ) (r : Put) : Type 0 where
+  pub bytes : Writes (textOf ls) before after (r .length)
+  pub measure : r .measure ≡ cond (leb (length (textOf ls)) (length before)) (lineMeasure ls) 0

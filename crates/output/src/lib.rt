@@ -1,11 +1,15 @@
-// Lines put into the output, and what is kept between rows, after output.rs.
+// Lines written into the output, and what is kept between rows, after output.rs. Each writer is lent the unwritten part of the output, and gives the count written.
 ghost use mathlib.Core.Path.{_≡_};
 ghost use mathlib.Core.List.{[], _∷_};
-ghost use Prim.Native.Nat.{_<_, _≤_, min, max};
+ghost use Prim.Native.Nat.{_<_, _≤_, min};
 ghost use lib.Dec.{eqb};
 ghost use lib.ListN.{length, take};
-ghost use Rattle.slices.specs.Joins.{over};
-ghost use Rattle.output.specs.Output.{queueLimit, ended, finish, measureOf, flushed, linesAbove, beginRow, textViewOf, Puts};
+ghost use Rattle.message.specs.Message.{trimEnd};
+ghost use Rattle.output.specs.Output.{queueLimit, ended, finish, textOf, measureOf, flushed, linesAbove, beginRow, textViewOf, Puts};
+ghost use Rattle.slices.specs.Joins.{over, Writes};
+use message::trimmed_length;
+use slices::greater;
+use slices::lesser;
 
 // The greatest length of a queued line: eight bytes for each of 64 cells.
 pub const QUEUE_LIMIT: usize = 512;
@@ -24,11 +28,14 @@ pub struct Put {
     pub measure: usize,
 }
 
-// The greater of two numbers.
-pub fn greater(a: usize, b: usize) -> usize
-    ensures { λ r. ⌜ r ≡ max a b ⌝ }
+// Nothing is written.
+fn nothing() -> Put
+    ensures { λ r. ⌜ (r .length ≡ 0) × (r .measure ≡ 0) ⌝ }
 {
-    if a < b { b } else { a }
+    Put {
+        length: 0,
+        measure: 0,
+    }
 }
 
 // The measure of a finished line.
@@ -38,38 +45,30 @@ pub fn line_measure(line: &[u8]) -> usize
     line.len()
 }
 
-// Writes the first n bytes of a line and the line's end.
-fn copy_line(out: &mut [u8], line: &[u8], n: usize)
-    requires { ⌜ (n ≤ length (now line)) × (n < length (now out)) ⌝ }
-    ensures { λ r. ⌜ now (out .exit) ≡ over (ended (take n (now (line .entry)))) (now (out .entry)) ⌝ }
+// Writes bytes and a line's end behind them, where both fit, and gives their count.
+pub fn write_ended(out: &mut [u8], bytes: &[u8]) -> usize
+    ensures { λ r. ⌜ Writes (ended (now (bytes .entry))) (now (out .entry)) (now (out .exit)) r ⌝ }
 {
-    let mut i: usize = 0;
-    while i < n {
-        out[i] = line[i];
-        i += 1;
+    let n = bytes.len();
+    if out.len() <= n {
+        return 0;
     }
+    bytes::copy(bytes, out);
     out[n] = b'\n';
+    n + 1
 }
 
-// Puts a line from `at` on, without the blanks at its end, where it fits (`push_line`).
-pub fn put_line(out: &mut [u8], at: usize, line: &[u8]) -> Put
-    ensures { λ r. ⌜ Puts (finish (now (line .entry)) ∷ []) at (now (out .entry)) (now (out .exit)) r ⌝ }
+// Writes a line without the blanks at its end, where it fits (`push_line`).
+pub fn push_line(out: &mut [u8], line: &[u8]) -> Put
+    ensures { λ r. ⌜ Puts (finish (now (line .entry)) ∷ []) (now (out .entry)) (now (out .exit)) r ⌝ }
 {
-    let n = message::trimmed_length(line);
+    let n = trimmed_length(line);
+    let length = write_ended(out, &line[0..n]);
+    if length == 0 {
+        return nothing();
+    }
     let measure = line_measure(&line[0..n]);
-    let put = Put {
-        length: n + 1,
-        measure,
-    };
-    let size = out.len();
-    if size <= at {
-        return put;
-    }
-    if size - at <= n {
-        return put;
-    }
-    copy_line(&mut out[at..], line, n);
-    put
+    Put { length, measure }
 }
 
 impl TextState {
@@ -77,10 +76,7 @@ impl TextState {
     fn queue_length(self) -> usize
         ensures { λ r. ⌜ r ≡ min (self .«queued_length») queueLimit ⌝ }
     {
-        if QUEUE_LIMIT < self.queued_length {
-            return QUEUE_LIMIT;
-        }
-        self.queued_length
+        lesser(self.queued_length, QUEUE_LIMIT)
     }
 
     // Whether one line stands above the row, the queued one included, so that a separator is needed.
@@ -92,34 +88,57 @@ impl TextState {
         }
         self.row_height == 1
     }
+
+    // The length of the queued line, finished and with its end; 0 where there is none.
+    fn flushed_length(self) -> usize
+        ensures { λ r. ⌜ r ≡ length (textOf (flushed finish (textViewOf self))) ⌝ }
+    {
+        if !self.is_queued {
+            return 0;
+        }
+        let line = self.queued_pad_line;
+        let n = self.queue_length();
+        trimmed_length(&line[0..n]) + 1
+    }
 }
 
-// Puts the queued line, if there is one (`flush_queued_pad_line`).
+// The length of what stands between the row before and this one: the queued line, and the separator.
+pub fn begin_row_length(state: TextState, separator_line: bool) -> usize
+    ensures { λ r. ⌜ r ≡ length (textOf (beginRow finish «separator_line» (textViewOf state))) ⌝ }
+{
+    let flushed = state.flushed_length();
+    if separator_line & state.is_one_line() {
+        return flushed + 1;
+    }
+    flushed
+}
+
+// Writes the queued line, if there is one and it fits (`flush_queued_pad_line`).
 fn flush_queued_pad_line(out: &mut [u8], state: TextState) -> Put
-    ensures { λ r. ⌜ Puts (flushed (textViewOf state)) 0 (now (out .entry)) (now (out .exit)) r ⌝ }
+    ensures { λ r. ⌜ Puts (flushed finish (textViewOf state)) (now (out .entry)) (now (out .exit)) r ⌝ }
 {
     if !state.is_queued {
-        return Put {
-            length: 0,
-            measure: 0,
-        };
+        return nothing();
     }
     let line = state.queued_pad_line;
     let n = state.queue_length();
-    put_line(out, 0, &line[0..n])
+    push_line(out, &line[0..n])
 }
 
-// Puts what stands between the row before and this one: the queued line, and the separator.
+// Writes what stands between the row before and this one, where it fits: the queued line, and the separator.
 pub fn begin_row(out: &mut [u8], state: TextState, separator_line: bool) -> Put
-    ensures { λ r. ⌜ Puts (beginRow «separator_line» (textViewOf state)) 0 (now (out .entry)) (now (out .exit)) r ⌝ }
+    ensures { λ r. ⌜ Puts (beginRow finish «separator_line» (textViewOf state)) (now (out .entry)) (now (out .exit)) r ⌝ }
 {
-    let flushed = flush_queued_pad_line(out, state);
     if !(separator_line & state.is_one_line()) {
-        return flushed;
+        return flush_queued_pad_line(out, state);
     }
+    if out.len() < begin_row_length(state, separator_line) {
+        return nothing();
+    }
+    let flushed = flush_queued_pad_line(out, state);
     let at = flushed.length;
     let empty = [0u8; 1];
-    let separator = put_line(out, at, &empty[0..0]);
+    let separator = push_line(&mut out[at..], &empty[0..0]);
     Put {
         length: at + separator.length,
         measure: greater(flushed.measure, separator.measure),

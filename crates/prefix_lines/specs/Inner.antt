@@ -2,16 +2,17 @@
 use Prim.Native.Nat.{ℕ}
 use mathlib.Core.Bool.{cond}
 use mathlib.Core.List.{List, [], _∷_, _++_}
-use Rattle.render.specs.declared.types.Cell.{Cell}
+use lib.Dec.{ltb}
+use lib.ListN.{length}
 use Rattle.render.specs.declared.types.DashStyle.{DashStyle}
 use Rattle.render.specs.declared.types.RowShape.{RowShape}
-use Rattle.render.specs.Refusals.{refusal}
+use Rattle.render.specs.Refusals.{notRefused, outputShorterThanLines, refusal}
 use Rattle.glyphs.specs.declared.Renderer.{Renderer}
 use Rattle.glyphs.specs.declared.types.Line.{Line}
-use Rattle.glyphs.specs.declared.types.Row.{Row}
-use Rattle.glyphs.specs.Cells.{PrefixLine, isPresent, allLines, lines, glyphsOf, bytesOf, joinsFrom}
+use Rattle.glyphs.specs.declared.types.Drawing.{Drawing}
+use Rattle.glyphs.specs.Cells.{PrefixLine, isPresent, allLines, lines, glyphsOf, lineBytes}
 use Rattle.slices.specs.Characters.{newline, colon}
-use Rattle.glyphs.specs.Drawing.{cellsText}
+use Rattle.glyphs.specs.Tables.{numbersIn, cellsText}
 use Rattle.slices.specs.Joins.{joins}
 use Rattle.prefix_lines.specs.declared.writer.Frame.{Frame}
 use Rattle.prefix_lines.specs.declared.writer.Frame.the-variants.{Plain, Listed}
@@ -37,17 +38,21 @@ frameLength Listed = 4
 abbrev pub framed : Frame → Line → List ℕ → List ℕ
 framed f l bs = opening f l ++ (bs ++ closing f)
 
--- a line in its frame; nothing where the row has none
-unfoldable pub lineText : Frame → (ℕ → List ℕ) → Renderer → Row → ℕ → List Cell → Line → List ℕ
-lineText f glyphs q r mark cells l = cond (isPresent q r l) (framed f l (cellsText glyphs q r mark cells l)) []
+-- a drawing's line in its frame, its cells drawn from a table; nothing where the row has none
+unfoldable pub drawnLine : Frame → List ℕ → Drawing → Line → List ℕ
+drawnLine f table d l = cond (isPresent (d .renderer) (d .row) l) (framed f l (cellsText table (numbersIn d l))) []
 
--- all lines that a row has
-abbrev pub linesText : Frame → (ℕ → List ℕ) → Renderer → Row → ℕ → List Cell → List ℕ
-linesText f glyphs q r mark cells = joins (lineText f glyphs q r mark cells) allLines
+-- all lines that a drawing's row has
+abbrev pub drawnLines : Frame → List ℕ → Drawing → List ℕ
+drawnLines f table d = joins (drawnLine f table d) allLines
 
--- a line from its choices: `linesBytes` where the frame is plain, `listingBytes` in a listing
+-- the refusal where these bytes have no room
+abbrev pub roomRefusal : List ℕ → List ℕ → ℕ
+roomRefusal bs out = cond (ltb (length out) (length bs)) outputShorterThanLines notRefused
+
+-- a line from its choices: `letteredLine` where the frame is plain, `listingLine` in a listing
 abbrev pub framedLine : Frame → Renderer → DashStyle → ℕ → PrefixLine → List ℕ
-framedLine f q d mark l = framed f (l .kind) (joinsFrom (bytesOf (glyphsOf q) q d mark) 0 (l .choices))
+framedLine f q d mark l = framed f (l .kind) (lineBytes (glyphsOf q) q d mark (l .choices))
 
 -- all lines of a shape, from the choices
 unfoldable pub framedBytes : Frame → Renderer → RowShape → ℕ → List ℕ

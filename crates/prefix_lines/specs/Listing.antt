@@ -5,7 +5,7 @@ use Rattle.render.specs.declared.types.DashStyle.{DashStyle}
 use Rattle.render.specs.declared.types.RowShape.{RowShape}
 use Rattle.render.specs.Refusals.{Check, refusal}
 use Rattle.glyphs.specs.declared.Renderer.the-variants.{Ascii}
-use Rattle.glyphs.specs.Cells.{PrefixLine, lines, glyphsOf, bytesOf, joinsFrom}
+use Rattle.glyphs.specs.Cells.{PrefixLine, lines, glyphsOf, lineBytes}
 use Rattle.slices.specs.Characters.{newline, colon}
 use Rattle.slices.specs.Joins.{joins}
 use Rattle.prefix_lines.specs.PrefixLines.{letter, checksFor, Answer, answered}
@@ -16,7 +16,7 @@ dollar = 0x24
 
 -- "for each prefix line its kind letter .., a colon, the line with the mark in place, and `$`, then 0A" (01)
 abbrev pub listingLine : DashStyle → ℕ → PrefixLine → List ℕ
-listingLine d mark l = letter (l .kind) ∷ (colon ∷ (joinsFrom (bytesOf (glyphsOf Ascii) Ascii d mark) 0 (l .choices) ++ (dollar ∷ newline ∷ [])))
+listingLine d mark l = letter (l .kind) ∷ (colon ∷ (lineBytes (glyphsOf Ascii) Ascii d mark (l .choices) ++ (dollar ∷ newline ∷ [])))
 
 -- the listing's bytes of a shape
 unfoldable pub listingBytes : RowShape → ℕ → List ℕ

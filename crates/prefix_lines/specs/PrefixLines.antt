@@ -12,7 +12,7 @@ use Rattle.render.specs.Refusals.{markOutsideSpan, outputShorterThanLines, shap
 use Rattle.glyphs.specs.declared.Renderer.{Renderer}
 use Rattle.glyphs.specs.declared.types.Line.{Line}
 use Rattle.glyphs.specs.declared.types.Line.the-variants.{PreNode, Node, PostNode, Link, SecondLink, Term, SecondTerm, Ancestry, PostAncestry}
-use Rattle.glyphs.specs.Cells.{PrefixLine, lines, glyphsOf, bytesOf, joinsFrom}
+use Rattle.glyphs.specs.Cells.{PrefixLine, lines, glyphsOf, lineBytes}
 use Rattle.slices.specs.Characters.{newline}
 use Rattle.slices.specs.Joins.{joins, over}
 use Rattle.prefix_lines.specs.declared.Written.{Written}
@@ -30,12 +30,12 @@ letter Ancestry = 0x41
 letter PostAncestry = 0x5a
 
 -- "each line as its kind letter .., the line with the mark in place, then 0A" (01)
-abbrev pub lineBytes : Renderer → DashStyle → ℕ → PrefixLine → List ℕ
-lineBytes q d mark l = letter (l .kind) ∷ (joinsFrom (bytesOf (glyphsOf q) q d mark) 0 (l .choices) ++ (newline ∷ []))
+abbrev pub letteredLine : (ℕ → List ℕ) → Renderer → DashStyle → ℕ → PrefixLine → List ℕ
+letteredLine glyphs q d mark l = letter (l .kind) ∷ (lineBytes glyphs q d mark (l .choices) ++ (newline ∷ []))
 
--- the bytes of a shape's prefix lines
-unfoldable pub linesBytes : Renderer → RowShape → ℕ → List ℕ
-linesBytes q g mark = joins (lineBytes q (g .style .«dash_style») mark) (lines q g)
+-- the bytes of a shape's prefix lines, for any glyphs
+unfoldable pub linesBytes : (ℕ → List ℕ) → Renderer → RowShape → ℕ → List ℕ
+linesBytes glyphs q g mark = joins (letteredLine glyphs q (g .style .«dash_style») mark) (lines q g)
 
 -- the renderer's rows of 01's table, in their order, where these bytes are to be written
 abbrev pub checksFor : RowShape → ℕ → List ℕ → List ℕ → List Check
@@ -44,10 +44,6 @@ checksFor g mark bs out =
     ∷ (shapeTooWide when ltb columnLimit (g .width))
     ∷ (outputShorterThanLines when ltb (length out) (length bs))
     ∷ []
-
--- the renderer call's rows of 01's table, in their order
-abbrev pub checks : RowShape → Renderer → ℕ → List ℕ → List Check
-checks g q mark out = checksFor g mark (linesBytes q g mark) out
 
 -- what a call gives: the refusal, the length, and the output afterwards
 pub record Answer : Type 0 where
@@ -64,6 +60,10 @@ abbrev pub answered : ℕ → List ℕ → List ℕ → Answer
 answered zero bs out = record { refusal = 0; length = length bs; output = over bs out }
 answered (suc n) bs out = record { refusal = suc n; length = 0; output = out }
 
--- the renderer call
+-- the renderer call for any glyphs
+abbrev pub prefixLinesWith : (ℕ → List ℕ) → RowShape → Renderer → ℕ → List ℕ → Answer
+prefixLinesWith glyphs g q mark out = answered (refusal (checksFor g mark (linesBytes glyphs q g mark) out)) (linesBytes glyphs q g mark) out
+
+-- the renderer call: the renderer's own glyphs
 abbrev pub nextPrefixLines : RowShape → Renderer → ℕ → List ℕ → Answer
-nextPrefixLines g q mark out = answered (refusal (checks g q mark out)) (linesBytes q g mark) out
+nextPrefixLines g q mark out = prefixLinesWith (glyphsOf q) g q mark out

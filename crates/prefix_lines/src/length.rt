@@ -1,39 +1,19 @@
-// How long the lines are: the count before anything is written.
+// How long the lines are: the count before anything is written, where there is room in doubt.
 ghost use mathlib.Core.Path.{_≡_};
-ghost use Prim.Native.Nat.{_≤_};
-ghost use lib.ListN.{length, take};
+ghost use Prim.Native.Nat.{_*_, _+_, _≤_};
+ghost use lib.Dec.{leb};
+ghost use lib.ListN.{length};
 ghost use Rattle.column.specs.Columns.{columnLimit};
-ghost use Rattle.glyphs.specs.Drawing.{cellsText, entry};
-ghost use Rattle.prefix_lines.specs.Inner.{frameLength, lineText, linesText};
+ghost use Rattle.prefix_lines.specs.Inner.{frameLength, drawnLine, drawnLines};
 use crate::writer::Frame;
 use column::COLUMN_LIMIT;
-use glyphs::DRAWN;
+use glyphs::Drawing;
 use glyphs::LINES;
 use glyphs::Line;
-use glyphs::Renderer;
-use glyphs::Row;
-use glyphs::TABLE;
-use glyphs::draw_cells;
+use glyphs::cells_length;
+use glyphs::choose_cells;
 use glyphs::is_present;
 use glyphs::line_at;
-use render::Cell;
-
-// The length of a line's cells.
-fn cells_length(
-    table: &[u8; TABLE],
-    renderer: Renderer,
-    row: Row,
-    mark: u8,
-    line: Line,
-    cells: [Cell; COLUMN_LIMIT],
-    width: usize,
-) -> usize
-    requires { ⌜ width ≤ columnLimit ⌝ }
-    ensures { λ r. ⌜ r ≡ length (cellsText (entry (now (table .entry))) renderer row mark (take width cells) line) ⌝ }
-{
-    let mut drawn = [0u8; DRAWN];
-    draw_cells(&mut drawn, table, renderer, row, mark, line, cells, width)
-}
 
 // How many bytes a line has beside its cells.
 fn frame_length(frame: Frame) -> usize
@@ -46,44 +26,48 @@ fn frame_length(frame: Frame) -> usize
 }
 
 // The length of a line in its frame; 0 where the row has none.
-fn line_length(
-    frame: Frame,
-    table: &[u8; TABLE],
-    renderer: Renderer,
-    row: Row,
-    mark: u8,
-    line: Line,
-    cells: [Cell; COLUMN_LIMIT],
-    width: usize,
-) -> usize
-    requires { ⌜ width ≤ columnLimit ⌝ }
-    ensures { λ r. ⌜ r ≡ length (lineText frame (entry (now (table .entry))) renderer row mark (take width cells) line) ⌝ }
+fn line_length(frame: Frame, table: &[u8], drawing: Drawing, line: Line) -> usize
+    ensures { λ r. ⌜ r ≡ length (drawnLine frame (now (table .entry)) drawing line) ⌝ }
 {
-    if is_present(renderer, row, line) {
-        return cells_length(table, renderer, row, mark, line, cells, width) + frame_length(frame);
+    let renderer = drawing.renderer;
+    let row = drawing.row;
+    if !is_present(renderer, row, line) {
+        return 0;
     }
-    0
+    let mut numbers = [0u8; COLUMN_LIMIT];
+    let cells = choose_cells(&mut numbers, drawing, line);
+    cells_length(table, &numbers, cells) + frame_length(frame)
 }
 
 // The length of a row's lines.
-pub(crate) fn lines_length(
-    frame: Frame,
-    table: &[u8; TABLE],
-    renderer: Renderer,
-    row: Row,
-    mark: u8,
-    cells: [Cell; COLUMN_LIMIT],
-    width: usize,
-) -> usize
-    requires { ⌜ width ≤ columnLimit ⌝ }
-    ensures { λ r. ⌜ r ≡ length (linesText frame (entry (now (table .entry))) renderer row mark (take width cells)) ⌝ }
+fn lines_length(frame: Frame, table: &[u8], drawing: Drawing) -> usize
+    ensures { λ r. ⌜ r ≡ length (drawnLines frame (now (table .entry)) drawing) ⌝ }
 {
     let mut count: usize = 0;
     let mut k: usize = 0;
     while k < LINES {
         let line = line_at(k);
-        count += line_length(frame, table, renderer, row, mark, line, cells, width);
+        count += line_length(frame, table, drawing, line);
         k += 1;
     }
     count
+}
+
+// What a row's lines can have at most: of each line eight bytes for each cell, and the frame.
+fn most_bytes(frame: Frame, width: usize) -> usize
+    requires { ⌜ width ≤ columnLimit ⌝ }
+    ensures { λ r. ⌜ r ≡ 9 * (8 * width + frameLength frame) ⌝ }
+{
+    LINES * (8 * width + frame_length(frame))
+}
+
+// Whether an output of so many bytes has room for all lines; they are counted only where it is shorter than they can be at most.
+pub(crate) fn has_room(size: usize, frame: Frame, table: &[u8], drawing: Drawing) -> bool
+    requires { ⌜ drawing .width ≤ columnLimit ⌝ }
+    ensures { λ r. ⌜ r ≡ leb (length (drawnLines frame (now (table .entry)) drawing)) size ⌝ }
+{
+    if most_bytes(frame, drawing.width) <= size {
+        return true;
+    }
+    lines_length(frame, table, drawing) <= size
 }

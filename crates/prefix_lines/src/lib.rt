@@ -1,18 +1,22 @@
 // The renderer call, after row_shape_to_prefix_lines.rs, and the same lines in the listing program's form.
 ghost use mathlib.Core.Path.{_≡_};
-ghost use Rattle.prefix_lines.specs.Inner.{framedAnswer};
+ghost use Prim.Native.Nat.{_≤_};
+ghost use Rattle.column.specs.Columns.{columnLimit};
+ghost use Rattle.prefix_lines.specs.Inner.{drawnLines, framedAnswer, roomRefusal};
 ghost use Rattle.prefix_lines.specs.Listing.{listing};
-ghost use Rattle.prefix_lines.specs.PrefixLines.{answerOf, nextPrefixLines};
+ghost use Rattle.prefix_lines.specs.PrefixLines.{answerOf, answered, nextPrefixLines};
 
 mod length;
 mod writer;
 
 use column::COLUMN_LIMIT;
+use glyphs::Drawing;
 use glyphs::Renderer;
-use glyphs::TABLE;
-use glyphs::row_of;
-use glyphs::write_table;
-use length::lines_length;
+use glyphs::ascii_table;
+use glyphs::box_table;
+use glyphs::drawing_of;
+use glyphs::large_table;
+use length::has_room;
 use render::ACCEPTED;
 use render::MARK_OUTSIDE_SPAN;
 use render::OUTPUT_SHORTER_THAN_LINES;
@@ -35,6 +39,21 @@ fn refused(refusal: u8) -> Written
     Written { refusal, length: 0 }
 }
 
+// Writes each line of a drawing in its frame out of a table, if the output has room for them.
+fn write_with(out: &mut [u8], frame: Frame, table: &[u8], drawing: Drawing) -> Written
+    requires { ⌜ drawing .width ≤ columnLimit ⌝ }
+    ensures { λ r. ⌜ answerOf r (now (out .exit)) ≡ answered (roomRefusal (drawnLines frame (now (table .entry)) drawing) (now (out .entry))) (drawnLines frame (now (table .entry)) drawing) (now (out .entry)) ⌝ }
+{
+    if !has_room(out.len(), frame, table, drawing) {
+        return refused(OUTPUT_SHORTER_THAN_LINES);
+    }
+    let length = write_lines(out, frame, table, drawing);
+    Written {
+        refusal: ACCEPTED,
+        length,
+    }
+}
+
 // Writes each line of a shape in its frame.
 fn write_shape(
     out: &mut [u8],
@@ -51,18 +70,20 @@ fn write_shape(
     if COLUMN_LIMIT < shape.width {
         return refused(SHAPE_TOO_WIDE);
     }
-    let cells = shape.cells;
-    let width = shape.width;
-    let row = row_of(shape);
-    let mut table = [0u8; TABLE];
-    write_table(&mut table, renderer);
-    if out.len() < lines_length(frame, &table, renderer, row, mark, cells, width) {
-        return refused(OUTPUT_SHORTER_THAN_LINES);
-    }
-    let length = write_lines(out, frame, &table, renderer, row, mark, cells, width);
-    Written {
-        refusal: ACCEPTED,
-        length,
+    let drawing = drawing_of(shape, renderer, mark);
+    match renderer {
+        Renderer::Ascii => {
+            let table = ascii_table(mark);
+            write_with(out, frame, &table, drawing)
+        }
+        Renderer::AsciiLarge => {
+            let table = large_table(mark);
+            write_with(out, frame, &table, drawing)
+        }
+        Renderer::Square | Renderer::Curved | Renderer::Dec => {
+            let table = box_table(renderer, mark);
+            write_with(out, frame, &table, drawing)
+        }
     }
 }
 

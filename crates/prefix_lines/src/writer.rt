@@ -1,51 +1,24 @@
 // The writers: each is lent the unwritten part of the output, and gives the count written.
 ghost use mathlib.Core.Path.{_≡_};
 ghost use Prim.Native.Nat.{_≤_};
-ghost use lib.ListN.{length, take};
-ghost use Rattle.column.specs.Columns.{columnLimit};
-ghost use Rattle.glyphs.specs.Drawing.{cellsText, entry};
-ghost use Rattle.slices.specs.Joins.{over};
-ghost use Rattle.prefix_lines.specs.Inner.{closing, lineText, linesText, opening};
+ghost use lib.ListN.{length};
+ghost use Rattle.prefix_lines.specs.Inner.{closing, drawnLine, drawnLines, opening};
 ghost use Rattle.prefix_lines.specs.PrefixLines.{letter};
+ghost use Rattle.slices.specs.Joins.{over};
 use column::COLUMN_LIMIT;
-use glyphs::DRAWN;
+use glyphs::Drawing;
 use glyphs::LINES;
 use glyphs::Line;
-use glyphs::Renderer;
-use glyphs::Row;
-use glyphs::TABLE;
-use glyphs::copy_bytes;
-use glyphs::draw_cells;
+use glyphs::cells_length;
+use glyphs::choose_cells;
 use glyphs::is_present;
 use glyphs::line_at;
-use render::Cell;
+use glyphs::write_cells;
 
 // What stands around a line's cells: the letter and the end, in a listing a colon and `$` too.
 pub(crate) enum Frame {
     Plain,
     Listed,
-}
-
-// Writes a line's cells, and gives the count of their bytes.
-fn write_cells(
-    out: &mut [u8],
-    table: &[u8; TABLE],
-    renderer: Renderer,
-    row: Row,
-    mark: u8,
-    line: Line,
-    cells: [Cell; COLUMN_LIMIT],
-    width: usize,
-) -> usize
-    requires { ⌜ width ≤ columnLimit ⌝ }
-    requires { ⌜ length (cellsText (entry (now table)) renderer row mark (take width cells) line) ≤ length (now out) ⌝ }
-    ensures { λ r. ⌜ (r ≡ length (cellsText (entry (now (table .entry))) renderer row mark (take width cells) line))
-        × (now (out .exit) ≡ over (cellsText (entry (now (table .entry))) renderer row mark (take width cells) line) (now (out .entry))) ⌝ }
-{
-    let mut drawn = [0u8; DRAWN];
-    let n = draw_cells(&mut drawn, table, renderer, row, mark, line, cells, width);
-    copy_bytes(out, &drawn[0..n]);
-    n
 }
 
 // The kind letter.
@@ -96,68 +69,39 @@ fn write_closing(out: &mut [u8], frame: Frame) -> usize
 fn write_line(
     out: &mut [u8],
     frame: Frame,
-    table: &[u8; TABLE],
-    renderer: Renderer,
-    row: Row,
-    mark: u8,
+    table: &[u8],
+    numbers: &mut [u8; COLUMN_LIMIT],
+    drawing: Drawing,
     line: Line,
-    cells: [Cell; COLUMN_LIMIT],
-    width: usize,
 ) -> usize
-    requires { ⌜ width ≤ columnLimit ⌝ }
-    requires { ⌜ length (lineText frame (entry (now table)) renderer row mark (take width cells) line) ≤ length (now out) ⌝ }
-    ensures { λ r. ⌜ (r ≡ length (lineText frame (entry (now (table .entry))) renderer row mark (take width cells) line))
-        × (now (out .exit) ≡ over (lineText frame (entry (now (table .entry))) renderer row mark (take width cells) line) (now (out .entry))) ⌝ }
+    requires { ⌜ length (drawnLine frame (now table) drawing line) ≤ length (now out) ⌝ }
+    ensures { λ r. ⌜ (r ≡ length (drawnLine frame (now (table .entry)) drawing line))
+        × (now (out .exit) ≡ over (drawnLine frame (now (table .entry)) drawing line) (now (out .entry))) ⌝ }
 {
-    if is_present(renderer, row, line) {
-        let start = write_opening(out, frame, line);
-        let end = start
-            + write_cells(
-                &mut out[start..],
-                table,
-                renderer,
-                row,
-                mark,
-                line,
-                cells,
-                width,
-            );
-        return end + write_closing(&mut out[end..], frame);
+    let renderer = drawing.renderer;
+    let row = drawing.row;
+    if !is_present(renderer, row, line) {
+        return 0;
     }
-    0
+    let cells = choose_cells(numbers, drawing, line);
+    let length = cells_length(table, numbers, cells);
+    let start = write_opening(out, frame, line);
+    let end = start + write_cells(&mut out[start..], table, numbers, cells, length);
+    end + write_closing(&mut out[end..], frame)
 }
 
 // Writes a row's lines, and gives the count of their bytes.
-pub(crate) fn write_lines(
-    out: &mut [u8],
-    frame: Frame,
-    table: &[u8; TABLE],
-    renderer: Renderer,
-    row: Row,
-    mark: u8,
-    cells: [Cell; COLUMN_LIMIT],
-    width: usize,
-) -> usize
-    requires { ⌜ width ≤ columnLimit ⌝ }
-    requires { ⌜ length (linesText frame (entry (now table)) renderer row mark (take width cells)) ≤ length (now out) ⌝ }
-    ensures { λ r. ⌜ (r ≡ length (linesText frame (entry (now (table .entry))) renderer row mark (take width cells)))
-        × (now (out .exit) ≡ over (linesText frame (entry (now (table .entry))) renderer row mark (take width cells)) (now (out .entry))) ⌝ }
+pub(crate) fn write_lines(out: &mut [u8], frame: Frame, table: &[u8], drawing: Drawing) -> usize
+    requires { ⌜ length (drawnLines frame (now table) drawing) ≤ length (now out) ⌝ }
+    ensures { λ r. ⌜ (r ≡ length (drawnLines frame (now (table .entry)) drawing))
+        × (now (out .exit) ≡ over (drawnLines frame (now (table .entry)) drawing) (now (out .entry))) ⌝ }
 {
+    let mut numbers = [0u8; COLUMN_LIMIT];
     let mut at: usize = 0;
     let mut k: usize = 0;
     while k < LINES {
         let line = line_at(k);
-        at += write_line(
-            &mut out[at..],
-            frame,
-            table,
-            renderer,
-            row,
-            mark,
-            line,
-            cells,
-            width,
-        );
+        at += write_line(&mut out[at..], frame, table, &mut numbers, drawing, line);
         k += 1;
     }
     at

@@ -5,7 +5,6 @@ mod prefix_lines_to_text;
 
 pub use graph_text_renderer::TextAnswer;
 pub use graph_text_renderer::write_next_text;
-pub use prefix_lines_to_text::Drawn;
 pub use prefix_lines_to_text::Plan;
 pub use prefix_lines_to_text::RowPut;
 pub use prefix_lines_to_text::RowText;

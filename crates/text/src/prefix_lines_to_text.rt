@@ -13,41 +13,39 @@ ghost use Rattle.output.specs.Output.{queueLimit, textOf, textViewOf, Puts};
 ghost use Rattle.shaper.specs.Shaper.{heightLimit};
 ghost use Rattle.text.specs.Text.{isBottom, times as timesOf};
 ghost use Rattle.text.specs.Inner.{prefixText, drawn as drawnLines, spread, one, fixedLines, planOf, lineTimes, allPut, mostBytes, stateAfter, drawnOf, RowPuts, RowTexts};
-use crate::lines::put_text_line;
+use crate::lines::Lengths;
+use crate::lines::lengths_of;
+use crate::lines::repeat_text_line;
+use crate::lines::text_line_length;
+use crate::lines::write_text_line;
 use column::COLUMN_LIMIT;
-use glyphs::DRAWN;
+use glyphs::Drawing;
 use glyphs::LINES;
 use glyphs::Line;
 use glyphs::Renderer;
 use glyphs::Row;
-use glyphs::TABLE;
-use glyphs::copy_bytes;
-use glyphs::draw_cells;
+use glyphs::ascii_table;
+use glyphs::box_table;
+use glyphs::cells_length;
+use glyphs::choose_cells;
+use glyphs::drawing_of;
 use glyphs::is_present;
+use glyphs::large_table;
 use glyphs::line_at;
-use glyphs::row_of;
-use glyphs::write_table;
+use glyphs::write_cells;
 use message::line_count;
 use message::line_end;
 use message::next_start;
 use output::Put;
 use output::TextState;
 use output::begin_row;
-use output::greater;
+use output::begin_row_length;
 use render::ACCEPTED;
-use render::Cell;
 use render::LinkLinePlacement;
 use render::OUTPUT_SHORTER_THAN_LINES;
 use render::RowShape;
-
-// What the lines of a row are drawn from.
-pub struct Drawn {
-    pub renderer: Renderer,
-    pub row: Row,
-    pub mark: u8,
-    pub cells: [Cell; COLUMN_LIMIT],
-    pub width: usize,
-}
+use slices::difference;
+use slices::greater;
 
 // How a row's lines are repeated: where the link lines stand, how many lines the row has in any case, and how many are needed beyond them.
 pub struct Plan {
@@ -90,16 +88,6 @@ fn fixed_lines(renderer: Renderer, row: Row) -> usize
         + one_if(is_present(renderer, row, Line::Ancestry))
 }
 
-// How many are missing.
-fn missing(wanted: usize, there: usize) -> usize
-    ensures { λ r. ⌜ r ≡ wanted - there ⌝ }
-{
-    if wanted < there {
-        return 0;
-    }
-    wanted - there
-}
-
 // The plan of a row with so many message lines, at a minimum row height.
 fn plan_of(
     placement: LinkLinePlacement,
@@ -111,7 +99,7 @@ fn plan_of(
     ensures { λ r. ⌜ r ≡ planOf placement renderer row count height ⌝ }
 {
     let fixed = fixed_lines(renderer, row);
-    let needed = missing(greater(count, height), fixed);
+    let needed = difference(greater(count, height), fixed);
     Plan {
         placement,
         fixed,
@@ -167,54 +155,84 @@ fn times(plan: Plan, renderer: Renderer, row: Row, line: Line) -> usize
     repeats(placement, plan.needed, line)
 }
 
-// Draws a line that is written so often, and gives the count of its bytes.
-fn draw_line(
-    scratch: &mut [u8],
-    table: &[u8; TABLE],
-    drawn: Drawn,
+// Chooses the glyphs of a line that is written so often, and gives how many cells it has.
+fn choose_line(
+    numbers: &mut [u8; COLUMN_LIMIT],
+    drawing: Drawing,
     line: Line,
     times: usize,
-) -> usize
-    requires { ⌜ (drawn .width ≤ columnLimit) × (length (now scratch) ≡ 520) ⌝ }
-    ensures { λ r. ⌜ (r ≤ queueLimit) × (0 < times → take r (now (scratch .exit)) ≡ prefixText (entry (now (table .entry))) drawn line) ⌝ }
-{
+) -> usize {
     if times == 0 {
         return 0;
     }
-    let renderer = drawn.renderer;
-    let row = drawn.row;
-    let cells = drawn.cells;
-    draw_cells(
-        scratch,
-        table,
-        renderer,
-        row,
-        drawn.mark,
-        line,
-        cells,
-        drawn.width,
-    )
+    choose_cells(numbers, drawing, line)
 }
 
-// Puts a prefix line so many times from `at` on, each time with the next message line.
-fn put_repeated(
-    out: &mut [u8],
-    at: usize,
-    prefix: &[u8],
-    times: usize,
-    message: &[u8],
-    start: usize,
-) -> RowPut
-    requires { ⌜ (length (now prefix) ≤ queueLimit) × (length (now message) ≤ messageLimit) × (start ≤ length (now message)) × (times ≤ messageLimit) × (at ≤ 10000000) ⌝ }
-    ensures { λ r. ⌜ RowPuts (replicate times (now (prefix .entry))) (now (message .entry)) start at (now (out .entry)) (now (out .exit)) r ⌝ }
-{
+// The length of a prefix line written so many times, each time with the next message line.
+fn repeated_length(lengths: Lengths, times: usize, message: &[u8], start: usize) -> RowPut {
     let mut length: usize = 0;
-    let mut measure: usize = 0;
     let mut next = start;
     let mut i: usize = 0;
     while i < times {
         let end = line_end(message, next);
-        let put = put_text_line(out, at + length, prefix, &message[next..end]);
+        length += text_line_length(lengths, &message[next..end]);
+        next = next_start(message, end);
+        i += 1;
+    }
+    RowPut {
+        length,
+        measure: 0,
+        next,
+    }
+}
+
+// The length of a row's lines with its message.
+fn row_length(table: &[u8], drawing: Drawing, plan: Plan, message: &[u8]) -> usize {
+    let renderer = drawing.renderer;
+    let row = drawing.row;
+    let mut numbers = [0u8; COLUMN_LIMIT];
+    let mut length: usize = 0;
+    let mut next: usize = 0;
+    let mut k: usize = 0;
+    while k < LINES {
+        let line = line_at(k);
+        let times = times(plan, renderer, row, line);
+        let cells = choose_line(&mut numbers, drawing, line, times);
+        let lengths = lengths_of(table, &numbers, cells);
+        let put = repeated_length(lengths, times, message, next);
+        length += put.length;
+        next = put.next;
+        k += 1;
+    }
+    length
+}
+
+// Writes a prefix line so many times, each time with the next message line: the first by its glyphs, the others by the first one's bytes.
+fn write_repeated(
+    out: &mut [u8],
+    table: &[u8],
+    numbers: &[u8; COLUMN_LIMIT],
+    lengths: Lengths,
+    times: usize,
+    message: &[u8],
+    start: usize,
+) -> RowPut {
+    if times == 0 {
+        return RowPut {
+            length: 0,
+            measure: 0,
+            next: start,
+        };
+    }
+    let first_end = line_end(message, start);
+    let first = write_text_line(out, table, numbers, lengths, &message[start..first_end]);
+    let mut length = first.length;
+    let mut measure = first.measure;
+    let mut next = next_start(message, first_end);
+    let mut i: usize = 1;
+    while i < times {
+        let end = line_end(message, next);
+        let put = repeat_text_line(out, length, lengths, &message[next..end]);
         length += put.length;
         measure = greater(measure, put.measure);
         next = next_start(message, end);
@@ -227,21 +245,17 @@ fn put_repeated(
     }
 }
 
-// Puts a row's lines with its message from `at` on, each drawn once.
-fn put_row(
+// Writes a row's lines with its message, the glyphs of each chosen once.
+fn write_row(
     out: &mut [u8],
-    at: usize,
-    table: &[u8; TABLE],
-    drawn: Drawn,
+    table: &[u8],
+    drawing: Drawing,
     plan: Plan,
     message: &[u8],
-) -> Put
-    requires { ⌜ (drawn .width ≤ columnLimit) × (length (now message) ≤ messageLimit) × (plan .needed ≤ messageLimit) × (at ≤ 1000) ⌝ }
-    ensures { λ r. ⌜ Puts (drawnLines (map (prefixText (entry (now (table .entry))) drawn) (spread (lineTimes plan (drawn .renderer) (drawn .row)) allLines)) (now (message .entry))) at (now (out .entry)) (now (out .exit)) r ⌝ }
-{
-    let renderer = drawn.renderer;
-    let row = drawn.row;
-    let mut scratch = [0u8; DRAWN];
+) -> Put {
+    let renderer = drawing.renderer;
+    let row = drawing.row;
+    let mut numbers = [0u8; COLUMN_LIMIT];
     let mut length: usize = 0;
     let mut measure: usize = 0;
     let mut next: usize = 0;
@@ -249,8 +263,17 @@ fn put_row(
     while k < LINES {
         let line = line_at(k);
         let times = times(plan, renderer, row, line);
-        let n = draw_line(&mut scratch, table, drawn, line, times);
-        let put = put_repeated(out, at + length, &scratch[0..n], times, message, next);
+        let cells = choose_line(&mut numbers, drawing, line, times);
+        let lengths = lengths_of(table, &numbers, cells);
+        let put = write_repeated(
+            &mut out[length..],
+            table,
+            &numbers,
+            lengths,
+            times,
+            message,
+            next,
+        );
         length += put.length;
         measure = greater(measure, put.measure);
         next = put.next;
@@ -259,22 +282,19 @@ fn put_row(
     Put { length, measure }
 }
 
-// Puts all lines of a text call.
-fn put_text(
+// Writes all lines of a text call.
+fn write_lines(
     out: &mut [u8],
-    table: &[u8; TABLE],
-    drawn: Drawn,
+    table: &[u8],
+    drawing: Drawing,
     plan: Plan,
     message: &[u8],
     state: TextState,
     separator_line: bool,
-) -> Put
-    requires { ⌜ (drawn .width ≤ columnLimit) × (length (now message) ≤ messageLimit) × (plan .needed ≤ messageLimit) ⌝ }
-    ensures { λ r. ⌜ Puts (allPut (entry (now (table .entry))) drawn plan (now (message .entry)) (textViewOf state) «separator_line») 0 (now (out .entry)) (now (out .exit)) r ⌝ }
-{
+) -> Put {
     let above = begin_row(out, state, separator_line);
     let at = above.length;
-    let row = put_row(out, at, table, drawn, plan, message);
+    let row = write_row(&mut out[at..], table, drawing, plan, message);
     Put {
         length: at + row.length,
         measure: greater(above.measure, row.measure),
@@ -291,44 +311,26 @@ fn most_bytes(plan: Plan, width: usize, message: usize) -> usize
     lines * each + message + 514
 }
 
-// Whether an output has room for all lines; they are counted only where it is shorter than they can be at most.
+// Whether an output of so many bytes has room for all lines; they are counted only where it is shorter than they can be at most.
 fn has_room(
-    out: &mut [u8],
-    table: &[u8; TABLE],
-    drawn: Drawn,
+    size: usize,
+    table: &[u8],
+    drawing: Drawing,
     plan: Plan,
     message: &[u8],
     state: TextState,
     separator_line: bool,
-) -> bool
-    requires { ⌜ (drawn .width ≤ columnLimit) × (length (now message) ≤ messageLimit) × (plan .fixed ≤ 6) × (plan .needed ≤ messageLimit) ⌝ }
-    requires { ⌜ plan .fixed ≡ fixedLines (drawn .renderer) (drawn .row) ⌝ }
-    ensures { λ r. ⌜ (r ≡ leb (length (textOf (allPut (entry (now (table .entry))) drawn plan (now (message .entry)) (textViewOf state) «separator_line»))) (length (now (out .entry))))
-        × (now (out .exit) ≡ now (out .entry)) ⌝ }
-{
-    let size = out.len();
-    if most_bytes(plan, drawn.width, message.len()) <= size {
+) -> bool {
+    if most_bytes(plan, drawing.width, message.len()) <= size {
         return true;
     }
-    let none: usize = 0;
-    let counted = put_text(
-        &mut out[0..none],
-        table,
-        drawn,
-        plan,
-        message,
-        state,
-        separator_line,
-    );
-    counted.length <= size
+    let above = begin_row_length(state, separator_line);
+    above + row_length(table, drawing, plan, message) <= size
 }
 
 // The text state after a row: the foot line waits for the next row if this one has a term line and wrote no foot line.
-fn state_after(table: &[u8; TABLE], drawn: Drawn, plan: Plan, state: TextState) -> TextState
-    requires { ⌜ (drawn .width ≤ columnLimit) × (plan .fixed ≤ 6) × (plan .needed ≤ messageLimit) ⌝ }
-    ensures { λ r. ⌜ textViewOf r ≡ stateAfter (entry (now (table .entry))) drawn plan ⌝ }
-{
-    let row = drawn.row;
+fn state_after(table: &[u8], drawing: Drawing, plan: Plan, state: TextState) -> TextState {
+    let row = drawing.row;
     let placement = plan.placement;
     let row_height = plan.fixed + plan.needed;
     let mut queued_pad_line = state.queued_pad_line;
@@ -340,10 +342,10 @@ fn state_after(table: &[u8; TABLE], drawn: Drawn, plan: Plan, state: TextState) 
             row_height,
         };
     }
-    let mut scratch = [0u8; DRAWN];
-    let line = Line::PostAncestry;
-    let queued_length = draw_line(&mut scratch, table, drawn, line, 1);
-    copy_bytes(&mut queued_pad_line, &scratch[0..queued_length]);
+    let mut numbers = [0u8; COLUMN_LIMIT];
+    let cells = choose_cells(&mut numbers, drawing, Line::PostAncestry);
+    let length = cells_length(table, &numbers, cells);
+    let queued_length = write_cells(&mut queued_pad_line, table, &numbers, cells, length);
     TextState {
         queued_pad_line,
         queued_length,
@@ -352,18 +354,31 @@ fn state_after(table: &[u8; TABLE], drawn: Drawn, plan: Plan, state: TextState) 
     }
 }
 
-// What the lines of a shape are drawn from.
-fn drawn_of(shape: RowShape, renderer: Renderer, mark: u8) -> Drawn
-    ensures { λ r. ⌜ r ≡ drawnOf shape renderer mark ⌝ }
-{
-    let row = row_of(shape);
-    let cells = shape.cells;
-    Drawn {
-        renderer,
-        row,
-        mark,
-        cells,
-        width: shape.width,
+// Writes a row's text out of a table, if the output has room for it.
+fn write_with(
+    out: &mut [u8],
+    table: &[u8],
+    drawing: Drawing,
+    plan: Plan,
+    message: &[u8],
+    state: TextState,
+    separator_line: bool,
+) -> RowText {
+    if !has_room(out.len(), table, drawing, plan, message, state, separator_line) {
+        return RowText {
+            refusal: OUTPUT_SHORTER_THAN_LINES,
+            length: 0,
+            measure: 0,
+            state,
+        };
+    }
+    let put = write_lines(out, table, drawing, plan, message, state, separator_line);
+    let after = state_after(table, drawing, plan, state);
+    RowText {
+        refusal: ACCEPTED,
+        length: put.length,
+        measure: put.measure,
+        state: after,
     }
 }
 
@@ -380,28 +395,24 @@ pub(crate) fn write_row_text(
     requires { ⌜ (shape .width ≤ columnLimit) × (length (now message) ≤ messageLimit) × (height ≤ heightLimit) ⌝ }
     ensures { λ r. ⌜ RowTexts (textViewOf state) renderer shape mark (now (message .entry)) height (now (out .entry)) (now (out .exit)) r ⌝ }
 {
-    let drawn = drawn_of(shape, renderer, mark);
-    let row = drawn.row;
+    let drawing = drawing_of(shape, renderer, mark);
+    let row = drawing.row;
     let style = shape.style;
     let placement = style.link_line_placement;
     let plan = plan_of(placement, renderer, row, line_count(message), height);
-    let mut table = [0u8; TABLE];
-    write_table(&mut table, renderer);
     let separator = shape.separator_line;
-    if !has_room(out, &table, drawn, plan, message, state, separator) {
-        return RowText {
-            refusal: OUTPUT_SHORTER_THAN_LINES,
-            length: 0,
-            measure: 0,
-            state,
-        };
-    }
-    let put = put_text(out, &table, drawn, plan, message, state, separator);
-    let after = state_after(&table, drawn, plan, state);
-    RowText {
-        refusal: ACCEPTED,
-        length: put.length,
-        measure: put.measure,
-        state: after,
+    match renderer {
+        Renderer::Ascii => {
+            let table = ascii_table(mark);
+            write_with(out, &table, drawing, plan, message, state, separator)
+        }
+        Renderer::AsciiLarge => {
+            let table = large_table(mark);
+            write_with(out, &table, drawing, plan, message, state, separator)
+        }
+        Renderer::Square | Renderer::Curved | Renderer::Dec => {
+            let table = box_table(renderer, mark);
+            write_with(out, &table, drawing, plan, message, state, separator)
+        }
     }
 }

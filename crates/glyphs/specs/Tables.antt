@@ -1,0 +1,179 @@
+-- A table of glyphs, as it is lent to the writers: the glyphs that it holds, and the numbers by which a renderer's cells are drawn from it.
+use Prim.Native.Nat.{ℕ, zero, suc, _+_, _*_, min}
+use mathlib.Core.Path.{_≡_}
+use mathlib.Core.Bool.{cond}
+use mathlib.Core.List.{List, [], _∷_, _++_, map}
+use lib.Dec.{ltb, leb, eqb}
+use lib.ListN.{length, getD, take, drop}
+use Rattle.render.specs.declared.types.Cell.{Cell}
+use Rattle.render.specs.declared.types.DashStyle.{DashStyle}
+use Rattle.glyphs.specs.declared.Renderer.{Renderer}
+use Rattle.glyphs.specs.declared.Renderer.the-variants.{Ascii, AsciiLarge, Square, Curved, Dec}
+use Rattle.glyphs.specs.declared.types.Choice.{Choice}
+use Rattle.glyphs.specs.declared.types.Choice.the-variants as choice
+use Rattle.glyphs.specs.declared.types.Drawing.{Drawing}
+use Rattle.glyphs.specs.declared.types.Line.{Line}
+use Rattle.glyphs.specs.Ascii as ascii
+use Rattle.glyphs.specs.BoxDrawing as box
+use Rattle.glyphs.specs.Cells.{choicesOf, lineBytes}
+use Rattle.glyphs.specs.GlyphSets.{SPACE, PARENT, TERMINATION}
+use Rattle.slices.specs.Characters.{blank, bar, dot, colon, plus, minus, quote, tilde, backslash, slash, underscore}
+use Rattle.slices.specs.Joins.{joins}
+
+-- ---- the glyphs of a table
+
+-- nine bytes for a glyph: a count, read as at most 8, and eight places
+abbrev pub placed : List ℕ → ℕ → List ℕ
+placed table n = take (min (getD table (n * 9) 0) 8) (map (λ (j : ℕ). getD table (n * 9 + j) 0) (1 ∷ 2 ∷ 3 ∷ 4 ∷ 5 ∷ 6 ∷ 7 ∷ 8 ∷ []))
+
+-- glyph n of a table; none past the last whole one
+unfoldable pub glyphAt : List ℕ → ℕ → List ℕ
+glyphAt table n = cond (leb (n * 9 + 9) (length table)) (placed table n) []
+
+-- ---- what a renderer's table holds
+
+-- each of the first with each of the second
+abbrev pub paired : {A B C : Type 0} → (A → B → C) → List A → List B → List C
+paired f [] bs = []
+paired f (a ∷ as) bs = map (f a) bs ++ paired f as bs
+
+-- an ASCII cell: its upright or another character of a line, and its connecting character
+abbrev pub uprights : List ℕ
+uprights = blank ∷ bar ∷ dot ∷ colon ∷ plus ∷ minus ∷ quote ∷ tilde ∷ []
+
+abbrev pub connections : List ℕ
+connections = blank ∷ minus ∷ backslash ∷ slash ∷ []
+
+-- a large ASCII cell: its left, center and right character
+abbrev pub lefts : List ℕ
+lefts = blank ∷ slash ∷ dot ∷ underscore ∷ backslash ∷ []
+
+abbrev pub centers : List ℕ
+centers = blank ∷ bar ∷ dot ∷ colon ∷ underscore ∷ tilde ∷ []
+
+abbrev pub rights : List ℕ
+rights = blank ∷ backslash ∷ dot ∷ underscore ∷ slash ∷ []
+
+-- two characters
+abbrev pub two : ℕ → ℕ → List ℕ
+two a b = a ∷ b ∷ []
+
+-- the glyphs of the ASCII renderer's table: a cell's two characters, and the mark
+abbrev pub asciiTable : ℕ → List (List ℕ)
+asciiTable mark = paired two uprights connections ++ (two mark blank ∷ [])
+
+-- of the large one's: a cell's three characters, the first cell's two, and the mark in either
+abbrev pub largeTable : ℕ → List (List ℕ)
+largeTable mark =
+    paired (λ (a : ℕ) (bs : List ℕ). a ∷ bs) lefts (paired two centers rights)
+    ++ (paired two centers rights ++ ((blank ∷ two mark blank) ∷ two mark blank ∷ []))
+
+-- of a box drawing renderer's: the fifteen glyphs of a set, and the mark
+abbrev pub boxTable : (ℕ → List ℕ) → ℕ → List (List ℕ)
+boxTable glyphs mark = map glyphs (0 ∷ 1 ∷ 2 ∷ 3 ∷ 4 ∷ 5 ∷ 6 ∷ 7 ∷ 8 ∷ 9 ∷ 10 ∷ 11 ∷ 12 ∷ 13 ∷ 14 ∷ []) ++ (two mark blank ∷ [])
+
+-- what a renderer's table holds, for any glyphs
+abbrev pub tableOf : (ℕ → List ℕ) → Renderer → ℕ → List (List ℕ)
+tableOf glyphs Ascii mark = asciiTable mark
+tableOf glyphs AsciiLarge mark = largeTable mark
+tableOf glyphs Square mark = boxTable glyphs mark
+tableOf glyphs Curved mark = boxTable glyphs mark
+tableOf glyphs Dec mark = boxTable glyphs mark
+
+-- a table that holds them
+abbrev pub Tables : List ℕ → (ℕ → List ℕ) → Renderer → ℕ → Type 0
+Tables table glyphs q mark = (n : ℕ) → glyphAt table n ≡ getD (tableOf glyphs q mark) n []
+
+-- ---- the number by which a cell is drawn
+
+-- a character's place in a list, the list's length where it is not in it
+abbrev pub placeIn : List ℕ → ℕ → ℕ
+placeIn [] c = 0
+placeIn (x ∷ xs) c = cond (eqb c x) 0 (suc (placeIn xs c))
+
+-- the number of two characters in the ASCII renderer's table
+abbrev pub pairNumber : ℕ → ℕ → ℕ
+pairNumber a b = 4 * placeIn uprights a + placeIn connections b
+
+abbrev pub asciiNumber : DashStyle → Choice → ℕ
+asciiNumber d choice.Space = pairNumber blank blank
+asciiNumber d choice.Solid = pairNumber bar blank
+asciiNumber d choice.Dashed = pairNumber (ascii.ancestor d) blank
+asciiNumber d choice.Mark = 32
+asciiNumber d choice.End = pairNumber tilde blank
+asciiNumber d (choice.Two a b) = pairNumber a b
+asciiNumber d (choice.Three a b c) = 33
+asciiNumber d (choice.Glyph n) = 33
+
+-- the number of two characters in the large one's, in the first cell, and of three
+abbrev pub firstNumber : ℕ → ℕ → ℕ
+firstNumber b c = 150 + (5 * placeIn centers b + placeIn rights c)
+
+abbrev pub threeNumber : ℕ → ℕ → ℕ → ℕ
+threeNumber a b c = 30 * placeIn lefts a + (5 * placeIn centers b + placeIn rights c)
+
+-- a character and a blank, with a blank before them in each cell but the first
+abbrev pub apartNumber : ℕ → ℕ → ℕ
+apartNumber i c = cond (ltb 0 i) (threeNumber blank c blank) (firstNumber c blank)
+
+abbrev pub largeNumber : DashStyle → ℕ → Choice → ℕ
+largeNumber d i choice.Space = apartNumber i blank
+largeNumber d i choice.Solid = apartNumber i bar
+largeNumber d i choice.Dashed = apartNumber i (ascii.ancestor d)
+largeNumber d i choice.Mark = cond (ltb 0 i) 180 181
+largeNumber d i choice.End = apartNumber i tilde
+largeNumber d i (choice.Two b c) = firstNumber b c
+largeNumber d i (choice.Three a b c) = threeNumber a b c
+largeNumber d i (choice.Glyph n) = 182
+
+-- the number of a glyph of a set; the mark stands behind them
+abbrev pub boxNumber : DashStyle → Choice → ℕ
+boxNumber d choice.Space = SPACE
+boxNumber d choice.Solid = PARENT
+boxNumber d choice.Dashed = box.ancestor d
+boxNumber d choice.Mark = 15
+boxNumber d choice.End = TERMINATION
+boxNumber d (choice.Two a b) = 16
+boxNumber d (choice.Three a b c) = 16
+boxNumber d (choice.Glyph n) = box.styled d n
+
+-- the number by which a renderer draws what cell i was given
+unfoldable pub numberOf : Renderer → DashStyle → ℕ → Choice → ℕ
+numberOf Ascii d i x = asciiNumber d x
+numberOf AsciiLarge d i x = largeNumber d i x
+numberOf Square d i x = boxNumber d x
+numberOf Curved d i x = boxNumber d x
+numberOf Dec d i x = boxNumber d x
+
+-- the numbers of cells from i on
+abbrev pub numbersFrom : Renderer → DashStyle → ℕ → List Choice → List ℕ
+numbersFrom q d i [] = []
+numbersFrom q d i (x ∷ xs) = numberOf q d i x ∷ numbersFrom q d (suc i) xs
+
+-- ---- what the writers are given
+
+-- what the cells of a drawing's line are given
+abbrev pub choicesIn : Drawing → Line → List Choice
+choicesIn d l = choicesOf (d .renderer) (d .row) (take (d .width) (d .cells)) l
+
+-- the numbers of a drawing's line
+abbrev pub numbersIn : Drawing → Line → List ℕ
+numbersIn d l = numbersFrom (d .renderer) (d .row .«dash_style») 0 (choicesIn d l)
+
+-- a line of a drawing with the mark in place, for any glyphs
+abbrev pub lineIn : (ℕ → List ℕ) → Drawing → Line → List ℕ
+lineIn glyphs d l = lineBytes glyphs (d .renderer) (d .row .«dash_style») (d .mark) (choicesIn d l)
+
+-- the bytes of cells that are drawn by these numbers from a table
+abbrev pub cellsText : List ℕ → List ℕ → List ℕ
+cellsText table numbers = joins (glyphAt table) numbers
+
+-- the first `end` bytes of some cells, written at the start of a line that has so many bytes, where the output has room for the line; else nothing
+abbrev pub fitting : List ℕ → ℕ → List ℕ → List ℕ
+fitting text end before = cond (leb end (length before)) (take end text) []
+
+-- their count, that they stand there, and that nothing behind the line's end is touched
+pub record WritesCells (text : List ℕ) (end : ℕ) (before after : List ℕ) (r : ℕ) : Type 0 where
+  pub count : r ≡ length (fitting text end before)
+  pub bytes : take r after ≡ fitting text end before
+  pub behind : drop (cond (leb end (length before)) end 0) after ≡ drop (cond (leb end (length before)) end 0) before

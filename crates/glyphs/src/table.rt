@@ -1,0 +1,146 @@
+// Glyphs out of a table, into the output: each writer is lent the unwritten part of the output, and gives the count written.
+ghost use mathlib.Core.Path.{_≡_};
+ghost use Prim.Native.Nat.{_-_, _≤_, min};
+ghost use lib.ListN.{length, take, drop};
+ghost use Rattle.glyphs.specs.Inner.{WritesWithin};
+ghost use Rattle.glyphs.specs.Tables.{glyphAt, cellsText, WritesCells};
+ghost use Rattle.message.specs.Message.{trimEnd};
+ghost use Rattle.slices.specs.Joins.{over};
+use column::COLUMN_LIMIT;
+use message::trimmed_length;
+use slices::lesser;
+
+// The bytes of a glyph in a table: a count, and eight places.
+pub(crate) const GLYPH: usize = 9;
+
+// A count, read as at most eight.
+fn at_most_eight(count: u8) -> usize
+    ensures { λ r. ⌜ r ≡ min count 8 ⌝ }
+{
+    if count < 8 {
+        return count as usize;
+    }
+    8
+}
+
+// The count of a glyph's bytes, 0 past the last glyph.
+fn glyph_length(table: &[u8], n: u8) -> usize
+    ensures { λ r. ⌜ r ≡ length (glyphAt (now (table .entry)) n) ⌝ }
+{
+    let from = n as usize * GLYPH;
+    if table.len() < from + GLYPH {
+        return 0;
+    }
+    at_most_eight(table[from])
+}
+
+// Writes the first bytes of a glyph, at most so many.
+fn write_glyph(out: &mut [u8], table: &[u8], n: u8, most: usize) -> usize
+    requires { ⌜ most ≤ length (now out) ⌝ }
+    ensures { λ r. ⌜ (r ≡ length (take most (glyphAt (now (table .entry)) n)))
+        × (now (out .exit) ≡ over (take most (glyphAt (now (table .entry)) n)) (now (out .entry))) ⌝ }
+{
+    let count = lesser(glyph_length(table, n), most);
+    if count == 0 {
+        return 0;
+    }
+    let from = n as usize * GLYPH + 1;
+    bytes::copy(&table[from..from + count], out)
+}
+
+// Writes a glyph by its eight places.
+fn write_wide(out: &mut [u8], table: &[u8], n: u8) -> usize
+    requires { ⌜ 8 ≤ length (now out) ⌝ }
+    ensures { λ r. ⌜ WritesWithin (glyphAt (now (table .entry)) n) 8 (now (out .entry)) (now (out .exit)) r ⌝ }
+{
+    let from = n as usize * GLYPH;
+    if table.len() < from + GLYPH {
+        return 0;
+    }
+    bytes::copy(&table[from + 1..from + GLYPH], out);
+    at_most_eight(table[from])
+}
+
+// Writes a glyph where `left` bytes of the line are still to be written: by its eight places where it has so many, else its own bytes up to there.
+fn write_cell(out: &mut [u8], table: &[u8], n: u8, left: usize) -> usize
+    requires { ⌜ left ≤ length (now out) ⌝ }
+    ensures { λ r. ⌜ WritesWithin (take left (glyphAt (now (table .entry)) n)) left (now (out .entry)) (now (out .exit)) r ⌝ }
+{
+    if 8 <= left {
+        return write_wide(out, table, n);
+    }
+    write_glyph(out, table, n, left)
+}
+
+// Writes the cells of a line that has `end` bytes, where there is room for it, up to its end.
+pub fn write_cells(
+    out: &mut [u8],
+    table: &[u8],
+    numbers: &[u8; COLUMN_LIMIT],
+    width: usize,
+    end: usize,
+) -> usize
+    ensures { λ r. ⌜ WritesCells (cellsText (now (table .entry)) (take width (now (numbers .entry)))) end (now (out .entry)) (now (out .exit)) r ⌝ }
+{
+    if out.len() < end {
+        return 0;
+    }
+    let count = lesser(width, COLUMN_LIMIT);
+    let mut at: usize = 0;
+    let mut i: usize = 0;
+    while i < count {
+        at += write_cell(&mut out[at..], table, numbers[i], end - at);
+        i += 1;
+    }
+    at
+}
+
+// The count of the cells' bytes.
+pub fn cells_length(table: &[u8], numbers: &[u8; COLUMN_LIMIT], width: usize) -> usize
+    ensures { λ r. ⌜ r ≡ length (cellsText (now (table .entry)) (take width (now (numbers .entry)))) ⌝ }
+{
+    let count = lesser(width, COLUMN_LIMIT);
+    let mut length: usize = 0;
+    let mut i: usize = 0;
+    while i < count {
+        length += glyph_length(table, numbers[i]);
+        i += 1;
+    }
+    length
+}
+
+// The count of a glyph's bytes without the blanks at its end.
+fn glyph_end(table: &[u8], n: u8) -> usize
+    ensures { λ r. ⌜ r ≡ length (trimEnd (glyphAt (now (table .entry)) n)) ⌝ }
+{
+    let count = glyph_length(table, n);
+    if count == 0 {
+        return 0;
+    }
+    let from = n as usize * GLYPH + 1;
+    trimmed_length(&table[from..from + count])
+}
+
+// How many blanks stand at the end of a glyph.
+fn blanks_behind(table: &[u8], n: u8) -> usize
+    ensures { λ r. ⌜ r ≡ length (glyphAt (now (table .entry)) n) - length (trimEnd (glyphAt (now (table .entry)) n)) ⌝ }
+{
+    glyph_length(table, n) - glyph_end(table, n)
+}
+
+// How many blanks stand at the end of the cells, which the finished line lacks.
+pub fn trailing_blanks(table: &[u8], numbers: &[u8; COLUMN_LIMIT], width: usize) -> usize
+    ensures { λ r. ⌜ r ≡ length (cellsText (now (table .entry)) (take width (now (numbers .entry)))) - length (trimEnd (cellsText (now (table .entry)) (take width (now (numbers .entry))))) ⌝ }
+{
+    let mut n = lesser(width, COLUMN_LIMIT);
+    let mut blanks: usize = 0;
+    while 0 < n {
+        n -= 1;
+        let number = numbers[n];
+        blanks += blanks_behind(table, number);
+        if glyph_end(table, number) != 0 {
+            return blanks;
+        }
+    }
+    blanks
+}
