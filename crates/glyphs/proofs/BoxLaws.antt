@@ -10,15 +10,14 @@ use Rattle.render.specs.declared.types.DashStyle.{DashStyle}
 use Rattle.glyphs.specs.declared.Renderer.{Renderer}
 use Rattle.glyphs.specs.declared.Renderer.the-variants.{Ascii, AsciiLarge, Square, Curved, Dec}
 use Rattle.glyphs.specs.declared.types.Choice.{Choice}
-use Rattle.glyphs.specs.declared.types.Choice.the-variants.{Space, Solid, Dashed, Mark, End, Two, Three, Glyph}
-use Rattle.glyphs.specs.declared.types.Line.{Line}
 use Rattle.glyphs.specs.declared.types.Place.{Place}
+use Rattle.glyphs.specs.declared.types.PlainNumbers.{PlainNumbers}
 use Rattle.glyphs.specs.declared.types.Row.{Row}
 use Rattle.glyphs.specs.BoxDrawing as box
-use Rattle.glyphs.specs.Cells.{choiceOf, bytesOf}
-use Rattle.glyphs.specs.Inner.{glyphNumber}
+use Rattle.glyphs.specs.Cells.{linkChoice}
+use Rattle.glyphs.specs.Inner.{Plain}
+use Rattle.glyphs.specs.Tables.{numberOf, boxNumber, boxTable, tableOf}
 use Rattle.glyphs.proofs.Renderer.{the-type}
-use Rattle.glyphs.proofs.types.Choice.{the-type as choice-type}
 
 -- the renderer is Square, Curved or Dec
 abbrev IsBox : ℕ → Type 0
@@ -30,36 +29,32 @@ no-ascii h = ⊎-elim (λ e. omega (arith, e)) (⊎-elim (λ e. omega (arith, e)
 no-large : IsBox 1 → ⊥
 no-large h = ⊎-elim (λ e. omega (arith, e)) (⊎-elim (λ e. omega (arith, e)) (λ e. omega (arith, e))) h
 
-pub box-bytes : (glyphs : ℕ → List ℕ) (q : Renderer) (d : DashStyle) (mark i : ℕ) (x : Choice) → OneOf (2 ∷ 3 ∷ 4 ∷ []) (tagOf the-type q)
-    → bytesOf glyphs q d mark i x ≡ box.bytes glyphs d mark x
-unfolding bytesOf
-box-bytes glyphs Ascii d mark i x h = absurd (no-ascii h)
-box-bytes glyphs AsciiLarge d mark i x h = absurd (no-large h)
-box-bytes glyphs Square d mark i x h = refl
-box-bytes glyphs Curved d mark i x h = refl
-box-bytes glyphs Dec d mark i x h = refl
+pub box-link : (q : Renderer) (r : Row) (p : Place) → OneOf (2 ∷ 3 ∷ 4 ∷ []) (tagOf the-type q) → linkChoice q r p ≡ box.link r p
+box-link Ascii r p h = absurd (no-ascii h)
+box-link AsciiLarge r p h = absurd (no-large h)
+box-link Square r p h = refl
+box-link Curved r p h = refl
+box-link Dec r p h = refl
 
-pub box-choice : (q : Renderer) (r : Row) (l : Line) (p : Place) → OneOf (2 ∷ 3 ∷ 4 ∷ []) (tagOf the-type q) → choiceOf q r l p ≡ box.choice r l p
-unfolding choiceOf
-box-choice Ascii r l p h = absurd (no-ascii h)
-box-choice AsciiLarge r l p h = absurd (no-large h)
-box-choice Square r l p h = refl
-box-choice Curved r l p h = refl
-box-choice Dec r l p h = refl
+pub box-number : (q : Renderer) (d : DashStyle) (i : ℕ) (x : Choice) → OneOf (2 ∷ 3 ∷ 4 ∷ []) (tagOf the-type q) → numberOf q d i x ≡ boxNumber d x
+unfolding numberOf
+box-number Ascii d i x h = absurd (no-ascii h)
+box-number AsciiLarge d i x h = absurd (no-large h)
+box-number Square d i x h = refl
+box-number Curved d i x h = refl
+box-number Dec d i x h = refl
 
--- ---- what is drawn by a glyph's number
-no-mark : OneOf (0 ∷ 1 ∷ 2 ∷ 4 ∷ 5 ∷ 6 ∷ 7 ∷ []) 3 → ⊥
-no-mark h =
-    ⊎-elim (λ e. omega (arith, e)) (⊎-elim (λ e. omega (arith, e)) (⊎-elim (λ e. omega (arith, e)) (⊎-elim (λ e. omega (arith, e)) (⊎-elim (λ e. omega (arith, e))
-    (⊎-elim (λ e. omega (arith, e)) (λ e. omega (arith, e))))))) h
+pub box-plain : (q : Renderer) (d : DashStyle) (i : ℕ) (r : PlainNumbers) → OneOf (2 ∷ 3 ∷ 4 ∷ []) (tagOf the-type q) → Plain Square d i r → Plain q d i r
+unfolding numberOf
+box-plain Ascii d i r h e = absurd (no-ascii h)
+box-plain AsciiLarge d i r h e = absurd (no-large h)
+box-plain Square d i r h e = e
+box-plain Curved d i r h e = record { space = e .space; solid = e .solid; dashed = e .dashed; mark = e .mark; end = e .end }
+box-plain Dec d i r h e = record { space = e .space; solid = e .solid; dashed = e .dashed; mark = e .mark; end = e .end }
 
-pub number-bytes : (glyphs : ℕ → List ℕ) (d : DashStyle) (mark : ℕ) (x : Choice) → glyphs 15 ≡ [] → OneOf (0 ∷ 1 ∷ 2 ∷ 4 ∷ 5 ∷ 6 ∷ 7 ∷ []) (tagOf choice-type x)
-    → glyphs (glyphNumber d x) ≡ box.bytes glyphs d mark x
-number-bytes glyphs d mark Space e h = refl
-number-bytes glyphs d mark Solid e h = refl
-number-bytes glyphs d mark Dashed e h = refl
-number-bytes glyphs d mark Mark e h = absurd (no-mark h)
-number-bytes glyphs d mark End e h = refl
-number-bytes glyphs d mark (Two a b) e h = e
-number-bytes glyphs d mark (Three a b c) e h = e
-number-bytes glyphs d mark (Glyph n) e h = refl
+pub box-holds : (glyphs : ℕ → List ℕ) (q : Renderer) (mark : ℕ) → OneOf (2 ∷ 3 ∷ 4 ∷ []) (tagOf the-type q) → tableOf glyphs q mark ≡ boxTable glyphs mark
+box-holds glyphs Ascii mark h = absurd (no-ascii h)
+box-holds glyphs AsciiLarge mark h = absurd (no-large h)
+box-holds glyphs Square mark h = refl
+box-holds glyphs Curved mark h = refl
+box-holds glyphs Dec mark h = refl

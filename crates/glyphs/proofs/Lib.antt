@@ -1,6 +1,2 @@
-pub mod Alike
-pub mod CellLaws
-pub mod PlaceLaws
-pub mod TableLaws
-pub mod DrawLaws
 pub mod BoxLaws
+pub mod PlaceLaws

@@ -35,7 +35,7 @@ glyphAt table n = cond (leb (n * 9 + 9) (length table)) (placed table n) []
 -- each of the first with each of the second
 abbrev pub paired : {A B C : Type 0} → (A → B → C) → List A → List B → List C
 paired f [] bs = []
-paired f (a ∷ as) bs = map (f a) bs ++ paired f as bs
+paired f (a ∷ rest) bs = map (f a) bs ++ paired f rest bs
 
 -- an ASCII cell: its upright or another character of a line, and its connecting character
 abbrev pub uprights : List ℕ
@@ -168,12 +168,10 @@ lineIn glyphs d l = lineBytes glyphs (d .renderer) (d .row .«dash_style») (d .
 abbrev pub cellsText : List ℕ → List ℕ → List ℕ
 cellsText table numbers = joins (glyphAt table) numbers
 
--- the first `end` bytes of some cells, written at the start of a line that has so many bytes, where the output has room for the line; else nothing
-abbrev pub fitting : List ℕ → ℕ → List ℕ → List ℕ
-fitting text end before = cond (leb end (length before)) (take end text) []
-
--- their count, that they stand there, and that nothing behind the line's end is touched
-pub record WritesCells (text : List ℕ) (end : ℕ) (before after : List ℕ) (r : ℕ) : Type 0 where
-  pub count : r ≡ length (fitting text end before)
-  pub bytes : take r after ≡ fitting text end before
-  pub behind : drop (cond (leb end (length before)) end 0) after ≡ drop (cond (leb end (length before)) end 0) before
+-- cells written at the start of a line that has so many bytes behind them, where the output has room for both: their count, that they stand there,
+-- and that nothing behind the line's end is touched; else nothing is written
+pub record WritesCells (text : List ℕ) (behind : ℕ) (before after : List ℕ) (r : ℕ) : Type 0 where
+  pub count : r ≡ cond (leb (length text + behind) (length before)) (length text) 0
+  pub bytes : take r after ≡ cond (leb (length text + behind) (length before)) text []
+  pub rest : drop (cond (leb (length text + behind) (length before)) (length text + behind) 0) after
+      ≡ drop (cond (leb (length text + behind) (length before)) (length text + behind) 0) before

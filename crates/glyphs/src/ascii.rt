@@ -4,9 +4,13 @@ ghost use mathlib.Core.List.{[]};
 ghost use Prim.Native.Nat.{ℕ};
 ghost use lib.ListN.{getD};
 ghost use Rattle.glyphs.specs.Ascii.{ancestor, standing, upright, connection};
+ghost use Rattle.glyphs.specs.declared.Renderer.the-variants.{Ascii};
+ghost use Rattle.glyphs.specs.Inner.{Plain};
+ghost use Rattle.slices.specs.Characters.{blank};
 ghost use Rattle.glyphs.specs.Tables.{glyphAt, placeIn, uprights, connections, pairNumber, asciiNumber, asciiTable};
 use crate::table::GLYPH;
 use crate::types::Choice;
+use crate::types::PlainNumbers;
 use crate::types::Row;
 use render::DashStyle;
 use render::LinkLine;
@@ -177,6 +181,29 @@ pub(crate) fn number(choice: Choice, dash_style: DashStyle) -> usize
         Choice::Two(a, b) => pair_number(a, b),
         Choice::Three(_, _, _) => MARK + 1,
         Choice::Glyph(_) => MARK + 1,
+    }
+}
+
+// The dashed upright's number with a blank behind it.
+fn dashed_number(dash_style: DashStyle) -> u8
+    ensures { λ r. ⌜ r ≡ pairNumber (ancestor «dash_style») blank ⌝ }
+{
+    match dash_style {
+        DashStyle::Persistent => 8,
+        DashStyle::Once => 12,
+    }
+}
+
+// The numbers of a cell that is given no link.
+pub(crate) fn plain_numbers(dash_style: DashStyle) -> PlainNumbers
+    ensures { λ r. ⌜ ((i : ℕ) → Plain Ascii «dash_style» i r) ⌝ }
+{
+    PlainNumbers {
+        space: 0,
+        solid: 4,
+        dashed: dashed_number(dash_style),
+        mark: 32,
+        end: 28,
     }
 }
 

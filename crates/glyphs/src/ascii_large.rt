@@ -2,14 +2,18 @@
 ghost use mathlib.Core.Path.{_≡_};
 ghost use mathlib.Core.Bool.{cond};
 ghost use mathlib.Core.List.{[]};
-ghost use Prim.Native.Nat.{ℕ};
+ghost use Prim.Native.Nat.{ℕ, _*_};
 ghost use lib.Dec.{ltb};
 ghost use lib.ListN.{getD};
+ghost use Rattle.glyphs.specs.Ascii.{ancestor};
 ghost use Rattle.glyphs.specs.AsciiLarge.{stroke, level, topLeft, lying, topCenter, topRight, bottomLeft, bottomCenter, bottomRight, linked};
+ghost use Rattle.glyphs.specs.declared.Renderer.the-variants.{AsciiLarge};
+ghost use Rattle.glyphs.specs.Inner.{Plain};
 ghost use Rattle.glyphs.specs.Tables.{glyphAt, placeIn, lefts, centers, rights, firstNumber, threeNumber, apartNumber, largeNumber, largeTable};
 use crate::ascii::dash;
 use crate::table::GLYPH;
 use crate::types::Choice;
+use crate::types::PlainNumbers;
 use render::DashStyle;
 use render::LinkLine;
 
@@ -453,6 +457,40 @@ pub(crate) fn number(choice: Choice, dash_style: DashStyle, index: usize) -> usi
         Choice::Two(b, c) => first_number(b, c),
         Choice::Three(a, b, c) => three_number(a, b, c),
         Choice::Glyph(_) => MARK + 2,
+    }
+}
+
+// The place of the dashed upright among the centers, five numbers for each.
+fn dashed_number(dash_style: DashStyle) -> u8
+    ensures { λ r. ⌜ r ≡ 5 * placeIn centers (ancestor «dash_style») ⌝ }
+{
+    match dash_style {
+        DashStyle::Persistent => 10,
+        DashStyle::Once => 15,
+    }
+}
+
+// The numbers of a cell that is given no link.
+pub(crate) fn plain_numbers(dash_style: DashStyle, index: usize) -> PlainNumbers
+    ensures { λ r. ⌜ Plain AsciiLarge «dash_style» index r ⌝ }
+{
+    let dashed = dashed_number(dash_style);
+    if 0 < index {
+        PlainNumbers {
+            space: 0,
+            solid: 5,
+            dashed,
+            mark: 180,
+            end: 25,
+        }
+    } else {
+        PlainNumbers {
+            space: 150,
+            solid: 155,
+            dashed: 150 + dashed,
+            mark: 181,
+            end: 175,
+        }
     }
 }
 

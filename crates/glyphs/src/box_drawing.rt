@@ -5,10 +5,13 @@ ghost use Prim.Native.Nat.{ℕ};
 ghost use lib.ListN.{getD, set};
 ghost use Rattle.glyphs.specs.BoxDrawing.{ancestor, across, between, turning, plain, boxLink, styled};
 ghost use Rattle.glyphs.specs.Cells.{glyphsOf};
+ghost use Rattle.glyphs.specs.declared.Renderer.the-variants.{Square};
+ghost use Rattle.glyphs.specs.Inner.{Plain};
 ghost use Rattle.glyphs.specs.Tables.{glyphAt, boxNumber, boxTable};
 use crate::Renderer;
 use crate::table::GLYPH;
 use crate::types::Choice;
+use crate::types::PlainNumbers;
 use render::DashStyle;
 use render::LinkLine;
 
@@ -270,6 +273,19 @@ pub(crate) fn number(choice: Choice, dash_style: DashStyle) -> usize
         Choice::Two(_, _) => MARK + 1,
         Choice::Three(_, _, _) => MARK + 1,
         Choice::Glyph(n) => own_dash(dash_style, n),
+    }
+}
+
+// The numbers of a cell that is given no link.
+pub(crate) fn plain_numbers(dash_style: DashStyle) -> PlainNumbers
+    ensures { λ r. ⌜ ((i : ℕ) → Plain Square «dash_style» i r) ⌝ }
+{
+    PlainNumbers {
+        space: SPACE as u8,
+        solid: PARENT as u8,
+        dashed: dashed(dash_style) as u8,
+        mark: MARK as u8,
+        end: TERMINATION as u8,
     }
 }
 

@@ -22,6 +22,7 @@ pub use row::row_of;
 pub use table::cells_length;
 pub use table::trailing_blanks;
 pub use table::write_cells;
+pub use table::write_finished;
 pub use types::Choice;
 pub use types::Drawing;
 pub use types::Line;

@@ -1,11 +1,13 @@
 // Glyphs out of a table, into the output: each writer is lent the unwritten part of the output, and gives the count written.
 ghost use mathlib.Core.Path.{_≡_};
-ghost use Prim.Native.Nat.{_-_, _≤_, min};
-ghost use lib.ListN.{length, take, drop};
+ghost use mathlib.Core.Bool.{true};
+ghost use Prim.Native.Nat.{_+_, _-_, _*_, _≤_, min};
+ghost use lib.ListN.{length, take};
+ghost use Rattle.column.specs.Columns.{columnLimit};
 ghost use Rattle.glyphs.specs.Inner.{WritesWithin};
 ghost use Rattle.glyphs.specs.Tables.{glyphAt, cellsText, WritesCells};
 ghost use Rattle.message.specs.Message.{trimEnd};
-ghost use Rattle.slices.specs.Joins.{over};
+ghost use Rattle.slices.specs.Joins.{over, Writes};
 use column::COLUMN_LIMIT;
 use message::trimmed_length;
 use slices::lesser;
@@ -48,7 +50,7 @@ fn write_glyph(out: &mut [u8], table: &[u8], n: u8, most: usize) -> usize
     bytes::copy(&table[from..from + count], out)
 }
 
-// Writes a glyph by its eight places.
+// Writes a glyph by its eight places, all of them read before the first is written.
 fn write_wide(out: &mut [u8], table: &[u8], n: u8) -> usize
     requires { ⌜ 8 ≤ length (now out) ⌝ }
     ensures { λ r. ⌜ WritesWithin (glyphAt (now (table .entry)) n) 8 (now (out .entry)) (now (out .exit)) r ⌝ }
@@ -57,7 +59,22 @@ fn write_wide(out: &mut [u8], table: &[u8], n: u8) -> usize
     if table.len() < from + GLYPH {
         return 0;
     }
-    bytes::copy(&table[from + 1..from + GLYPH], out);
+    let a = table[from + 1];
+    let b = table[from + 2];
+    let c = table[from + 3];
+    let d = table[from + 4];
+    let e = table[from + 5];
+    let f = table[from + 6];
+    let g = table[from + 7];
+    let h = table[from + 8];
+    out[0] = a;
+    out[1] = b;
+    out[2] = c;
+    out[3] = d;
+    out[4] = e;
+    out[5] = f;
+    out[6] = g;
+    out[7] = h;
     at_most_eight(table[from])
 }
 
@@ -72,24 +89,37 @@ fn write_cell(out: &mut [u8], table: &[u8], n: u8, left: usize) -> usize
     write_glyph(out, table, n, left)
 }
 
-// Writes the cells of a line that has `end` bytes, where there is room for it, up to its end.
-pub fn write_cells(
+// Writes the first `end` bytes of the cells of a line that has so many.
+fn write_first(
     out: &mut [u8],
     table: &[u8],
     numbers: &[u8; COLUMN_LIMIT],
     width: usize,
     end: usize,
 ) -> usize
-    ensures { λ r. ⌜ WritesCells (cellsText (now (table .entry)) (take width (now (numbers .entry)))) end (now (out .entry)) (now (out .exit)) r ⌝ }
+    requires { ⌜ end ≤ length (now out) ⌝ }
+    ensures { λ r. ⌜ WritesWithin (take end (cellsText (now (table .entry)) (take width (now (numbers .entry))))) end (now (out .entry)) (now (out .exit)) r ⌝ }
 {
-    if out.len() < end {
-        return 0;
-    }
     let count = lesser(width, COLUMN_LIMIT);
     let mut at: usize = 0;
     let mut i: usize = 0;
     while i < count {
         at += write_cell(&mut out[at..], table, numbers[i], end - at);
+        i += 1;
+    }
+    at
+}
+
+// Writes the cells of a line that has eight bytes or more behind them, each by its eight places.
+fn write_by_eight(out: &mut [u8], table: &[u8], numbers: &[u8; COLUMN_LIMIT], width: usize) -> usize
+    requires { ⌜ 8 * min width columnLimit + 8 ≤ length (now out) ⌝ }
+    ensures { λ r. ⌜ WritesWithin (cellsText (now (table .entry)) (take width (now (numbers .entry)))) (r + 8) (now (out .entry)) (now (out .exit)) r ⌝ }
+{
+    let count = lesser(width, COLUMN_LIMIT);
+    let mut at: usize = 0;
+    let mut i: usize = 0;
+    while i < count {
+        at += write_wide(&mut out[at..], table, numbers[i]);
         i += 1;
     }
     at
@@ -143,4 +173,57 @@ pub fn trailing_blanks(table: &[u8], numbers: &[u8; COLUMN_LIMIT], width: usize)
         }
     }
     blanks
+}
+
+// Whether cells can be written by eight places each: eight bytes or more stand behind them, and an output of so many bytes has room for all that.
+fn is_wide(size: usize, width: usize, behind: usize) -> bool
+    ensures { λ r. ⌜ (r ≡ true → (8 ≤ behind) × (8 * min width columnLimit + behind ≤ size)) ⌝ }
+{
+    if behind < 8 {
+        return false;
+    }
+    if size < behind {
+        return false;
+    }
+    8 * lesser(width, COLUMN_LIMIT) <= size - behind
+}
+
+// Writes the cells of a line that has so many bytes behind them, where there is room for both.
+pub fn write_cells(
+    out: &mut [u8],
+    table: &[u8],
+    numbers: &[u8; COLUMN_LIMIT],
+    width: usize,
+    behind: usize,
+) -> usize
+    ensures { λ r. ⌜ WritesCells (cellsText (now (table .entry)) (take width (now (numbers .entry)))) behind (now (out .entry)) (now (out .exit)) r ⌝ }
+{
+    let size = out.len();
+    if is_wide(size, width, behind) {
+        return write_by_eight(out, table, numbers, width);
+    }
+    let all = cells_length(table, numbers, width);
+    if size < all {
+        return 0;
+    }
+    if size - all < behind {
+        return 0;
+    }
+    write_first(out, table, numbers, width, all + behind)
+}
+
+// Writes the cells of a line without the blanks at its end, where there is room for them.
+pub fn write_finished(
+    out: &mut [u8],
+    table: &[u8],
+    numbers: &[u8; COLUMN_LIMIT],
+    width: usize,
+) -> usize
+    ensures { λ r. ⌜ Writes (trimEnd (cellsText (now (table .entry)) (take width (now (numbers .entry))))) (now (out .entry)) (now (out .exit)) r ⌝ }
+{
+    let end = cells_length(table, numbers, width) - trailing_blanks(table, numbers, width);
+    if out.len() < end {
+        return 0;
+    }
+    write_first(out, table, numbers, width, end)
 }

@@ -65,3 +65,12 @@ pub struct Drawing {
     pub cells: [Cell; COLUMN_LIMIT],
     pub width: usize,
 }
+
+// The numbers by which a cell is drawn that is given no link.
+pub struct PlainNumbers {
+    pub space: u8,
+    pub solid: u8,
+    pub dashed: u8,
+    pub mark: u8,
+    pub end: u8,
+}

@@ -9,7 +9,6 @@ use column::COLUMN_LIMIT;
 use glyphs::Drawing;
 use glyphs::LINES;
 use glyphs::Line;
-use glyphs::cells_length;
 use glyphs::choose_cells;
 use glyphs::is_present;
 use glyphs::line_at;
@@ -51,6 +50,16 @@ fn write_opening(out: &mut [u8], frame: Frame, line: Line) -> usize
     2
 }
 
+// How many bytes stand behind them.
+fn closing_length(frame: Frame) -> usize
+    ensures { λ r. ⌜ r ≡ length (closing frame) ⌝ }
+{
+    match frame {
+        Frame::Plain => 1,
+        Frame::Listed => 2,
+    }
+}
+
 // Writes what stands behind them, and gives the count of its bytes.
 fn write_closing(out: &mut [u8], frame: Frame) -> usize
     requires { ⌜ length (closing frame) ≤ length (now out) ⌝ }
@@ -84,9 +93,9 @@ fn write_line(
         return 0;
     }
     let cells = choose_cells(numbers, drawing, line);
-    let length = cells_length(table, numbers, cells);
     let start = write_opening(out, frame, line);
-    let end = start + write_cells(&mut out[start..], table, numbers, cells, length);
+    let behind = closing_length(frame);
+    let end = start + write_cells(&mut out[start..], table, numbers, cells, behind);
     end + write_closing(&mut out[end..], frame)
 }
 

@@ -1,26 +1,29 @@
 -- What the inner functions of text give.
 use Prim.Native.Nat.{ℕ, _+_, _-_, _*_, _≤_, max}
 use mathlib.Core.Path.{_≡_}
-use mathlib.Core.Bool.{Bool, cond, _&&_}
+use mathlib.Core.Bool.{Bool, false, cond, _&&_}
 use mathlib.Core.List.{List, [], _∷_, _++_, map}
 use lib.Dec.{eqb, ltb}
 use lib.ListN.{length, take, drop, replicate}
+use Rattle.slices.specs.Characters.{newline, blank}
+use Rattle.slices.specs.Joins.{over}
 use Rattle.render.specs.declared.types.LinkLinePlacement.{LinkLinePlacement}
 use Rattle.render.specs.declared.types.RowShape.{RowShape}
 use Rattle.render.specs.Refusals.{notRefused, outputShorterThanLines}
+use Rattle.message.specs.Message.{linesOf, trimEnd}
+use Rattle.message.specs.Inner.{firstLine, otherLines}
 use Rattle.glyphs.specs.declared.Renderer.{Renderer}
+use Rattle.glyphs.specs.declared.types.Drawing.{Drawing}
 use Rattle.glyphs.specs.declared.types.Line.{Line}
 use Rattle.glyphs.specs.declared.types.Line.the-variants.{Link, SecondLink, Term, SecondTerm, Ancestry, PostAncestry}
 use Rattle.glyphs.specs.declared.types.Row.{Row}
-use Rattle.glyphs.specs.Cells.{allLines, isPresent}
-use Rattle.slices.specs.Characters.{blank}
-use Rattle.glyphs.specs.Drawing.{cellsText}
-use Rattle.slices.specs.Joins.{over}
-use Rattle.glyphs.specs.Row.{rowOf}
-use Rattle.message.specs.Message.{linesOf}
-use Rattle.message.specs.Inner.{firstLine, otherLines}
-use Rattle.output.specs.Output.{finish, textOf, lineMeasure, TextView, textViewOf, beginRow, Puts}
-use Rattle.text.specs.declared.prefix_lines_to_text.Drawn.{Drawn}
+use Rattle.glyphs.specs.Cells.{allLines, isPresent, glyphsOf}
+use Rattle.glyphs.specs.Tables.{numbersIn, cellsText}
+use Rattle.output.specs.declared.Put.{Put}
+use Rattle.output.specs.declared.TextState.{TextState}
+use Rattle.output.specs.Output.{queueLimit, finish, ended, textOf, measureOf, lineMeasure, TextView, textViewOf, beginRow}
+use Rattle.text.specs.declared.lines.Lengths.{Lengths}
+use Rattle.text.specs.declared.prefix_lines_to_text.Counted.{Counted}
 use Rattle.text.specs.declared.prefix_lines_to_text.Plan.{Plan}
 use Rattle.text.specs.declared.prefix_lines_to_text.RowPut.{RowPut}
 use Rattle.text.specs.declared.prefix_lines_to_text.RowText.{RowText}
@@ -28,13 +31,34 @@ use Rattle.text.specs.Text.{isBottom, times, textLines, textAfter}
 
 -- ---- one line
 
--- a prefix line with the mark in place, for any glyphs
-unfoldable pub prefixText : (ℕ → List ℕ) → Drawn → Line → List ℕ
-prefixText glyphs d l = cellsText glyphs (d .renderer) (d .row) (d .mark) (take (d .width) (d .cells)) l
-
 -- a prefix line with a message line, finished
 abbrev pub lineWith : List ℕ → List ℕ → List ℕ
 lineWith prefix part = finish (prefix ++ (blank ∷ part))
+
+-- the lengths of a prefix line
+pub record Measured (prefix : List ℕ) (r : Lengths) : Type 0 where
+  pub all : r .all ≡ length prefix
+  pub finished : r .finished ≡ length (trimEnd prefix)
+
+-- what stands behind a finished prefix line that lacks so many blanks: with a message line they come back, and it stands behind them
+abbrev pub behindFinished : ℕ → List ℕ → List ℕ
+behindFinished blanks part = cond (eqb (length (trimEnd part)) 0) (newline ∷ []) (replicate blanks blank ++ (blank ∷ ended (trimEnd part)))
+
+-- a prefix line of these lengths whose finished bytes stand at the start of an output
+abbrev pub prefixAgain : Lengths → List ℕ → List ℕ
+prefixAgain r out = take (r .finished) out ++ replicate (r .all - r .finished) blank
+
+-- a finished line written with its end at the start of an output: its count and its measure
+pub record WritesLine (l before after : List ℕ) (r : Put) : Type 0 where
+  pub count : r .length ≡ length (ended l)
+  pub output : after ≡ over (ended l) before
+  pub measure : r .measure ≡ measureOf l
+
+-- and from `at` on
+pub record WritesLineAt (l : List ℕ) (at : ℕ) (before after : List ℕ) (r : Put) : Type 0 where
+  pub count : r .length ≡ length (ended l)
+  pub output : after ≡ take at before ++ (ended l ++ drop (at + length (ended l)) before)
+  pub measure : r .measure ≡ measureOf l
 
 -- ---- lines with the lines of a message
 
@@ -70,41 +94,68 @@ fixedLines q r =
 abbrev pub planOf : LinkLinePlacement → Renderer → Row → ℕ → ℕ → Plan
 planOf p q r count height = record { placement = p; fixed = fixedLines q r; needed = max count height - fixedLines q r }
 
--- lines put from `at` on, and where the next message line starts
-pub record RowPuts (ps : List (List ℕ)) (message : List ℕ) (start at : ℕ) (before after : List ℕ) (r : RowPut) : Type 0 where
-  pub put : Puts (drawn ps (drop start message)) at before after (record { length = r .length; measure = r .measure })
+-- lines written at the start of an output, and where the next message line starts
+pub record RowPuts (ps : List (List ℕ)) (message : List ℕ) (start : ℕ) (before after : List ℕ) (r : RowPut) : Type 0 where
+  pub count : r .length ≡ length (textOf (drawn ps (drop start message)))
+  pub output : after ≡ over (textOf (drawn ps (drop start message))) before
+  pub measure : r .measure ≡ lineMeasure (drawn ps (drop start message))
   pub next : drop (r .next) message ≡ leftOver ps (drop start message)
   pub within : r .next ≤ length message
 
+-- lines counted, and where the next message line starts
+pub record Counts (ps : List (List ℕ)) (message : List ℕ) (start : ℕ) (r : Counted) : Type 0 where
+  pub count : r .length ≡ length (textOf (drawn ps (drop start message)))
+  pub next : drop (r .next) message ≡ leftOver ps (drop start message)
+  pub within : r .next ≤ length message
+
+-- the prefix lines of a row as they are written, drawn from a table
+abbrev pub prefixes : List ℕ → Drawing → Plan → List (List ℕ)
+prefixes table d p = map (λ (l : Line). cellsText table (numbersIn d l)) (spread (lineTimes p (d .renderer) (d .row)) allLines)
+
 -- all lines of a call
-abbrev pub allPut : (ℕ → List ℕ) → Drawn → Plan → List ℕ → TextView → Bool → List (List ℕ)
-allPut glyphs d p message t separator =
-    beginRow separator t ++ drawn (map (prefixText glyphs d) (spread (lineTimes p (d .renderer) (d .row)) allLines)) message
+abbrev pub allLinesOf : List ℕ → Drawing → Plan → List ℕ → TextView → Bool → List (List ℕ)
+allLinesOf table d p message t separator = beginRow finish separator t ++ drawn (prefixes table d p) message
 
 -- how many bytes they have at most: of each line eight for each cell, the blank and the end, the message, and 514 above the row
 abbrev pub mostBytes : Plan → ℕ → ℕ → ℕ
 mostBytes p width message = (p .fixed + p .needed) * (8 * width + 2) + message + 514
 
+-- whether the foot line waits for the next row
+abbrev pub waits : Row → Plan → Bool
+waits r p = r .«term_line» && eqb (cond (isBottom (p .placement)) 0 (p .needed)) 0
+
 -- the text state after a row
-abbrev pub stateAfter : (ℕ → List ℕ) → Drawn → Plan → TextView
-stateAfter glyphs d p =
+abbrev pub stateAfter : List ℕ → Drawing → Plan → TextView
+stateAfter table d p =
     record {
-      queued = cond (d .row .«term_line» && eqb (cond (isBottom (p .placement)) 0 (p .needed)) 0) (prefixText glyphs d PostAncestry ∷ []) [];
+      queued = cond (waits (d .row) p) (cellsText table (numbersIn d PostAncestry) ∷ []) [];
       height = p .fixed + p .needed;
     }
 
+-- the raw queued length is at most the array's, and 0 where nothing is queued
+abbrev pub QueueFits : TextState → Type 0
+QueueFits t = (t .«queued_length» ≤ queueLimit) × (t .«is_queued» ≡ false → t .«queued_length» ≡ 0)
+
 -- ---- a row's text
 
--- what the lines of a shape are drawn from
-abbrev pub drawnOf : RowShape → Renderer → ℕ → Drawn
-drawnOf g q mark = record { renderer = q; row = rowOf g; mark = mark; cells = g .cells; width = g .width }
-
--- written where the output has room for it; else nothing is
-pub record RowTexts (t : TextView) (q : Renderer) (g : RowShape) (mark : ℕ) (message : List ℕ) (height : ℕ) (before after : List ℕ) (r : RowText) : Type 0 where
-  pub refusal : r .refusal ≡ cond (ltb (length before) (length (textOf (textLines t q g mark (linesOf message) height)))) outputShorterThanLines notRefused
+-- a row's text drawn from a table: written where the output has room for it; else nothing is
+pub record RowWith (table : List ℕ) (d : Drawing) (p : Plan) (message : List ℕ) (t : TextView) (separator : Bool) (before after : List ℕ) (r : RowText) : Type 0 where
+  pub refusal : r .refusal ≡ cond (ltb (length before) (length (textOf (allLinesOf table d p message t separator)))) outputShorterThanLines notRefused
   pub kept : (r .refusal ≡ 0 → ⊥) → after ≡ before
   pub written : r .refusal ≡ 0
-      → (r .length ≡ length (textOf (textLines t q g mark (linesOf message) height)))
-      × (r .measure ≡ lineMeasure (textLines t q g mark (linesOf message) height))
-      × (after ≡ over (textOf (textLines t q g mark (linesOf message) height)) before)
-      × (textViewOf (r .state) ≡ textAfter q g mark (linesOf message) height)
+      → (r .length ≡ length (textOf (allLinesOf table d p message t separator)))
+      × (r .measure ≡ lineMeasure (allLinesOf table d p message t separator))
+      × (after ≡ over (textOf (allLinesOf table d p message t separator)) before)
+      × (textViewOf (r .state) ≡ stateAfter table d p)
+      × QueueFits (r .state)
+
+-- the same from the definitions, with the renderer's own glyphs
+pub record RowTexts (t : TextView) (q : Renderer) (g : RowShape) (mark : ℕ) (message : List ℕ) (height : ℕ) (before after : List ℕ) (r : RowText) : Type 0 where
+  pub refusal : r .refusal ≡ cond (ltb (length before) (length (textOf (textLines finish (glyphsOf q) t q g mark (linesOf message) height)))) outputShorterThanLines notRefused
+  pub kept : (r .refusal ≡ 0 → ⊥) → after ≡ before
+  pub written : r .refusal ≡ 0
+      → (r .length ≡ length (textOf (textLines finish (glyphsOf q) t q g mark (linesOf message) height)))
+      × (r .measure ≡ lineMeasure (textLines finish (glyphsOf q) t q g mark (linesOf message) height))
+      × (after ≡ over (textOf (textLines finish (glyphsOf q) t q g mark (linesOf message) height)) before)
+      × (textViewOf (r .state) ≡ textAfter (glyphsOf q) q g mark (linesOf message) height)
+      × QueueFits (r .state)

@@ -1,40 +1,45 @@
-// One line of text: a prefix line with the mark in place, a blank and a message line, without the blanks at the end.
+// One line of text: a prefix line with the mark in place, a blank and a message line, without the blanks at the end. Each writer is lent the
+// unwritten part of the output, and gives the count written.
 ghost use mathlib.Core.Path.{_≡_};
-ghost use Prim.Native.Nat.{_≤_};
-ghost use lib.ListN.{length, take};
+ghost use mathlib.Core.List.{List, _∷_, _++_};
+ghost use Prim.Native.Nat.{ℕ, _+_, _≤_};
+ghost use lib.ListN.{length, take, drop, replicate};
 ghost use Rattle.glyphs.specs.Tables.{cellsText};
-ghost use Rattle.text.specs.Inner.{Measured, lineWith, WritesLine};
+ghost use Rattle.message.specs.Message.{messageLimit, trimEnd};
+ghost use Rattle.output.specs.Output.{ended, measureOf, queueLimit};
+ghost use Rattle.slices.specs.Characters.{blank};
+ghost use Rattle.slices.specs.Joins.{over};
+ghost use Rattle.text.specs.Inner.{Measured, behindFinished, lineWith, prefixAgain, WritesLine, WritesLineAt};
 use column::COLUMN_LIMIT;
 use glyphs::cells_length;
 use glyphs::trailing_blanks;
 use glyphs::write_cells;
+use glyphs::write_finished;
 use message::trimmed_length;
 use output::Put;
 use output::line_measure;
 use output::write_ended;
 
-// How many cells a line has, the count of their bytes, and that without the blanks at the end.
+// How long a prefix line is: the count of its bytes, and that without the blanks at the end.
 pub struct Lengths {
-    pub cells: usize,
     pub all: usize,
     pub finished: usize,
 }
 
-// The lengths of a line of so many cells.
+// The lengths of a prefix line.
 pub(crate) fn lengths_of(table: &[u8], numbers: &[u8; COLUMN_LIMIT], cells: usize) -> Lengths
-    ensures { λ r. ⌜ Measured (cellsText (now (table .entry)) (take cells (now (numbers .entry)))) cells r ⌝ }
+    ensures { λ r. ⌜ Measured (cellsText (now (table .entry)) (take cells (now (numbers .entry)))) r ⌝ }
 {
     let all = cells_length(table, numbers, cells);
     let finished = all - trailing_blanks(table, numbers, cells);
-    Lengths {
-        cells,
-        all,
-        finished,
-    }
+    Lengths { all, finished }
 }
 
 // The length of a prefix line with a message line, finished and with its end.
-pub(crate) fn text_line_length(lengths: Lengths, part: &[u8]) -> usize {
+pub(crate) fn text_line_length(lengths: Lengths, part: &[u8]) -> usize
+    requires { ⌜ (lengths .all ≤ queueLimit) × (lengths .finished ≤ queueLimit) × (length (now part) ≤ messageLimit) ⌝ }
+    ensures { λ r. ⌜ ((prefix : List ℕ) → Measured prefix lengths → r ≡ length (ended (lineWith prefix (now (part .entry))))) ⌝ }
+{
     let n = trimmed_length(part);
     if n == 0 {
         return lengths.finished + 1;
@@ -43,21 +48,12 @@ pub(crate) fn text_line_length(lengths: Lengths, part: &[u8]) -> usize {
 }
 
 // Writes what stands behind the cells of a line: a blank, the message line and the end.
-fn write_part(out: &mut [u8], part: &[u8]) -> usize {
+fn write_part(out: &mut [u8], part: &[u8]) -> usize
+    requires { ⌜ length (now part) + 2 ≤ length (now out) ⌝ }
+    ensures { λ r. ⌜ (r ≡ length (now (part .entry)) + 2) × (now (out .exit) ≡ over (blank ∷ ended (now (part .entry))) (now (out .entry))) ⌝ }
+{
     out[0] = b' ';
     1 + write_ended(&mut out[1..], part)
-}
-
-// Writes a prefix line without the blanks at its end.
-fn write_finished(
-    out: &mut [u8],
-    table: &[u8],
-    numbers: &[u8; COLUMN_LIMIT],
-    lengths: Lengths,
-) -> usize {
-    let end = write_cells(out, table, numbers, lengths.cells, lengths.finished);
-    out[end] = b'\n';
-    end + 1
 }
 
 // Writes a prefix line with a message line (`push_line_with_message`).
@@ -65,24 +61,33 @@ pub(crate) fn write_text_line(
     out: &mut [u8],
     table: &[u8],
     numbers: &[u8; COLUMN_LIMIT],
-    lengths: Lengths,
+    cells: usize,
     part: &[u8],
-) -> Put {
+) -> Put
+    requires { ⌜ length (ended (lineWith (cellsText (now table) (take cells (now numbers))) (now part))) ≤ length (now out) ⌝ }
+    ensures { λ r. ⌜ WritesLine (lineWith (cellsText (now (table .entry)) (take cells (now (numbers .entry)))) (now (part .entry))) (now (out .entry)) (now (out .exit)) r ⌝ }
+{
     let n = trimmed_length(part);
     if n == 0 {
-        let length = write_finished(out, table, numbers, lengths);
-        let measure = line_measure(&out[0..length - 1]);
-        return Put { length, measure };
+        let end = write_finished(out, table, numbers, cells);
+        out[end] = b'\n';
+        let measure = line_measure(&out[0..end]);
+        return Put {
+            length: end + 1,
+            measure,
+        };
     }
-    let end = lengths.all + 1 + n;
-    let at = write_cells(out, table, numbers, lengths.cells, end);
+    let at = write_cells(out, table, numbers, cells, n + 2);
     let length = at + write_part(&mut out[at..], &part[0..n]);
-    let measure = line_measure(&out[0..end]);
+    let measure = line_measure(&out[0..length - 1]);
     Put { length, measure }
 }
 
-// Copies the first bytes of a part of the output to a later place of it.
-fn copy_first(out: &mut [u8], count: usize, at: usize) {
+// Copies the first bytes of the output to a later place of it.
+fn copy_first(out: &mut [u8], count: usize, at: usize)
+    requires { ⌜ (count ≤ at) × (at + count ≤ length (now out)) ⌝ }
+    ensures { λ r. ⌜ now (out .exit) ≡ take at (now (out .entry)) ++ (take count (now (out .entry)) ++ drop (at + count) (now (out .entry))) ⌝ }
+{
     let mut i: usize = 0;
     while i < count {
         out[at + i] = out[i];
@@ -91,7 +96,10 @@ fn copy_first(out: &mut [u8], count: usize, at: usize) {
 }
 
 // Writes blanks.
-fn write_blanks(out: &mut [u8], count: usize) {
+fn write_blanks(out: &mut [u8], count: usize)
+    requires { ⌜ count ≤ length (now out) ⌝ }
+    ensures { λ r. ⌜ now (out .exit) ≡ over (replicate count blank) (now (out .entry)) ⌝ }
+{
     let mut i: usize = 0;
     while i < count {
         out[i] = b' ';
@@ -100,7 +108,10 @@ fn write_blanks(out: &mut [u8], count: usize) {
 }
 
 // Writes what stands behind a finished prefix line: the blanks that it lacks, a blank, the message line and the end.
-fn write_behind(out: &mut [u8], blanks: usize, part: &[u8]) -> usize {
+fn write_behind(out: &mut [u8], blanks: usize, part: &[u8]) -> usize
+    requires { ⌜ length (behindFinished blanks (now part)) ≤ length (now out) ⌝ }
+    ensures { λ r. ⌜ (r ≡ length (behindFinished blanks (now (part .entry)))) × (now (out .exit) ≡ over (behindFinished blanks (now (part .entry))) (now (out .entry))) ⌝ }
+{
     let n = trimmed_length(part);
     if n == 0 {
         out[0] = b'\n';
@@ -111,7 +122,11 @@ fn write_behind(out: &mut [u8], blanks: usize, part: &[u8]) -> usize {
 }
 
 // Writes a prefix line once more, from `at` on, with the next message line: its first bytes are those of the output.
-pub(crate) fn repeat_text_line(out: &mut [u8], at: usize, lengths: Lengths, part: &[u8]) -> Put {
+pub(crate) fn repeat_text_line(out: &mut [u8], at: usize, lengths: Lengths, part: &[u8]) -> Put
+    requires { ⌜ (lengths .finished ≤ lengths .all) × (lengths .finished ≤ at) × (trimEnd (take (lengths .finished) (now out)) ≡ take (lengths .finished) (now out)) ⌝ }
+    requires { ⌜ at + length (ended (lineWith (prefixAgain lengths (now out)) (now part))) ≤ length (now out) ⌝ }
+    ensures { λ r. ⌜ WritesLineAt (lineWith (prefixAgain lengths (now (out .entry))) (now (part .entry))) at (now (out .entry)) (now (out .exit)) r ⌝ }
+{
     copy_first(out, lengths.finished, at);
     let from = at + lengths.finished;
     let count = write_behind(&mut out[from..], lengths.all - lengths.finished, part);

@@ -1,18 +1,18 @@
 // A row's lines with its message, after prefix_lines_to_text.rs.
 ghost use mathlib.Core.Path.{_≡_};
 ghost use mathlib.Core.Bool.{cond};
-ghost use mathlib.Core.List.{map};
-ghost use Prim.Native.Nat.{_-_, _<_, _≤_};
+ghost use mathlib.Core.List.{List, [], _∷_};
+ghost use Prim.Native.Nat.{ℕ, _+_, _<_, _≤_};
 ghost use lib.Dec.{leb};
-ghost use lib.ListN.{length, take, replicate};
+ghost use lib.ListN.{length, take, drop, replicate};
 ghost use Rattle.column.specs.Columns.{columnLimit};
-ghost use Rattle.glyphs.specs.Cells.{allLines};
-ghost use Rattle.glyphs.specs.Drawing.{entry};
+ghost use Rattle.glyphs.specs.Tables.{numbersIn, cellsText};
 ghost use Rattle.message.specs.Message.{messageLimit};
-ghost use Rattle.output.specs.Output.{queueLimit, textOf, textViewOf, Puts};
+ghost use Rattle.output.specs.Output.{queueLimit, textOf, lineMeasure, textViewOf};
 ghost use Rattle.shaper.specs.Shaper.{heightLimit};
+ghost use Rattle.slices.specs.Joins.{over};
+ghost use Rattle.text.specs.Inner.{Measured, Counts, allLinesOf, QueueFits, drawn as drawnLines, one, fixedLines, planOf, lineTimes, prefixes, mostBytes, waits, RowPuts, RowWith, RowTexts};
 ghost use Rattle.text.specs.Text.{isBottom, times as timesOf};
-ghost use Rattle.text.specs.Inner.{prefixText, drawn as drawnLines, spread, one, fixedLines, planOf, lineTimes, allPut, mostBytes, stateAfter, drawnOf, RowPuts, RowTexts};
 use crate::lines::Lengths;
 use crate::lines::lengths_of;
 use crate::lines::repeat_text_line;
@@ -26,7 +26,6 @@ use glyphs::Renderer;
 use glyphs::Row;
 use glyphs::ascii_table;
 use glyphs::box_table;
-use glyphs::cells_length;
 use glyphs::choose_cells;
 use glyphs::drawing_of;
 use glyphs::is_present;
@@ -58,6 +57,12 @@ pub struct Plan {
 pub struct RowPut {
     pub length: usize,
     pub measure: usize,
+    pub next: usize,
+}
+
+// What a count of a row's lines gives: the count of their bytes, and where the next message line starts.
+pub struct Counted {
+    pub length: usize,
     pub next: usize,
 }
 
@@ -161,7 +166,9 @@ fn choose_line(
     drawing: Drawing,
     line: Line,
     times: usize,
-) -> usize {
+) -> usize
+    ensures { λ r. ⌜ (0 < times → take r (now (numbers .exit)) ≡ numbersIn drawing line) ⌝ }
+{
     if times == 0 {
         return 0;
     }
@@ -169,7 +176,10 @@ fn choose_line(
 }
 
 // The length of a prefix line written so many times, each time with the next message line.
-fn repeated_length(lengths: Lengths, times: usize, message: &[u8], start: usize) -> RowPut {
+fn repeated_length(lengths: Lengths, times: usize, message: &[u8], start: usize) -> Counted
+    requires { ⌜ (lengths .all ≤ queueLimit) × (lengths .finished ≤ queueLimit) × (length (now message) ≤ messageLimit) × (start ≤ length (now message)) × (times ≤ messageLimit) ⌝ }
+    ensures { λ r. ⌜ ((prefix : List ℕ) → Measured prefix lengths → Counts (replicate times prefix) (now (message .entry)) start r) ⌝ }
+{
     let mut length: usize = 0;
     let mut next = start;
     let mut i: usize = 0;
@@ -179,15 +189,14 @@ fn repeated_length(lengths: Lengths, times: usize, message: &[u8], start: usize)
         next = next_start(message, end);
         i += 1;
     }
-    RowPut {
-        length,
-        measure: 0,
-        next,
-    }
+    Counted { length, next }
 }
 
 // The length of a row's lines with its message.
-fn row_length(table: &[u8], drawing: Drawing, plan: Plan, message: &[u8]) -> usize {
+fn row_length(table: &[u8], drawing: Drawing, plan: Plan, message: &[u8]) -> usize
+    requires { ⌜ (length (now message) ≤ messageLimit) × (plan .needed ≤ messageLimit) ⌝ }
+    ensures { λ r. ⌜ r ≡ length (textOf (drawnLines (prefixes (now (table .entry)) drawing plan) (now (message .entry)))) ⌝ }
+{
     let renderer = drawing.renderer;
     let row = drawing.row;
     let mut numbers = [0u8; COLUMN_LIMIT];
@@ -212,11 +221,15 @@ fn write_repeated(
     out: &mut [u8],
     table: &[u8],
     numbers: &[u8; COLUMN_LIMIT],
-    lengths: Lengths,
+    cells: usize,
     times: usize,
     message: &[u8],
     start: usize,
-) -> RowPut {
+) -> RowPut
+    requires { ⌜ (length (now message) ≤ messageLimit) × (start ≤ length (now message)) × (times ≤ messageLimit) ⌝ }
+    requires { ⌜ length (textOf (drawnLines (replicate times (cellsText (now table) (take cells (now numbers)))) (drop start (now message)))) ≤ length (now out) ⌝ }
+    ensures { λ r. ⌜ RowPuts (replicate times (cellsText (now (table .entry)) (take cells (now (numbers .entry))))) (now (message .entry)) start (now (out .entry)) (now (out .exit)) r ⌝ }
+{
     if times == 0 {
         return RowPut {
             length: 0,
@@ -225,10 +238,18 @@ fn write_repeated(
         };
     }
     let first_end = line_end(message, start);
-    let first = write_text_line(out, table, numbers, lengths, &message[start..first_end]);
+    let first = write_text_line(out, table, numbers, cells, &message[start..first_end]);
     let mut length = first.length;
     let mut measure = first.measure;
     let mut next = next_start(message, first_end);
+    if times == 1 {
+        return RowPut {
+            length,
+            measure,
+            next,
+        };
+    }
+    let lengths = lengths_of(table, numbers, cells);
     let mut i: usize = 1;
     while i < times {
         let end = line_end(message, next);
@@ -246,13 +267,13 @@ fn write_repeated(
 }
 
 // Writes a row's lines with its message, the glyphs of each chosen once.
-fn write_row(
-    out: &mut [u8],
-    table: &[u8],
-    drawing: Drawing,
-    plan: Plan,
-    message: &[u8],
-) -> Put {
+fn write_row(out: &mut [u8], table: &[u8], drawing: Drawing, plan: Plan, message: &[u8]) -> Put
+    requires { ⌜ (length (now message) ≤ messageLimit) × (plan .needed ≤ messageLimit) ⌝ }
+    requires { ⌜ length (textOf (drawnLines (prefixes (now table) drawing plan) (now message))) ≤ length (now out) ⌝ }
+    ensures { λ r. ⌜ (r .length ≡ length (textOf (drawnLines (prefixes (now (table .entry)) drawing plan) (now (message .entry)))))
+        × (r .measure ≡ lineMeasure (drawnLines (prefixes (now (table .entry)) drawing plan) (now (message .entry))))
+        × (now (out .exit) ≡ over (textOf (drawnLines (prefixes (now (table .entry)) drawing plan) (now (message .entry)))) (now (out .entry))) ⌝ }
+{
     let renderer = drawing.renderer;
     let row = drawing.row;
     let mut numbers = [0u8; COLUMN_LIMIT];
@@ -264,12 +285,11 @@ fn write_row(
         let line = line_at(k);
         let times = times(plan, renderer, row, line);
         let cells = choose_line(&mut numbers, drawing, line, times);
-        let lengths = lengths_of(table, &numbers, cells);
         let put = write_repeated(
             &mut out[length..],
             table,
             &numbers,
-            lengths,
+            cells,
             times,
             message,
             next,
@@ -282,25 +302,6 @@ fn write_row(
     Put { length, measure }
 }
 
-// Writes all lines of a text call.
-fn write_lines(
-    out: &mut [u8],
-    table: &[u8],
-    drawing: Drawing,
-    plan: Plan,
-    message: &[u8],
-    state: TextState,
-    separator_line: bool,
-) -> Put {
-    let above = begin_row(out, state, separator_line);
-    let at = above.length;
-    let row = write_row(&mut out[at..], table, drawing, plan, message);
-    Put {
-        length: at + row.length,
-        measure: greater(above.measure, row.measure),
-    }
-}
-
 // What a row's lines can have at most: of each line the cells, a blank and the end, the message, and what stands above the row.
 fn most_bytes(plan: Plan, width: usize, message: usize) -> usize
     requires { ⌜ (plan .fixed ≤ 6) × (plan .needed ≤ messageLimit) × (width ≤ columnLimit) × (message ≤ messageLimit) ⌝ }
@@ -309,6 +310,45 @@ fn most_bytes(plan: Plan, width: usize, message: usize) -> usize
     let lines = plan.fixed + plan.needed;
     let each = 8 * width + 2;
     lines * each + message + 514
+}
+
+// Whether the foot line waits for the next row: this one has a term line and wrote no foot line.
+fn queues(row: Row, plan: Plan) -> bool
+    ensures { λ r. ⌜ r ≡ waits row plan ⌝ }
+{
+    let placement = plan.placement;
+    row.term_line & (at_foot(placement, plan.needed) == 0)
+}
+
+// The text state after a row whose foot line waits.
+fn queue_foot_line(table: &[u8], drawing: Drawing, plan: Plan, state: TextState) -> TextState
+    requires { ⌜ (plan .fixed ≤ 6) × (plan .needed ≤ messageLimit) ⌝ }
+    ensures { λ r. ⌜ (textViewOf r ≡ record { queued = cellsText (now (table .entry)) (numbersIn drawing Line.PostAncestry) ∷ []; height = plan .fixed + plan .needed }) × QueueFits r ⌝ }
+{
+    let mut queued_pad_line = state.queued_pad_line;
+    let mut numbers = [0u8; COLUMN_LIMIT];
+    let cells = choose_cells(&mut numbers, drawing, Line::PostAncestry);
+    let queued_length = write_cells(&mut queued_pad_line, table, &numbers, cells, 0);
+    TextState {
+        queued_pad_line,
+        queued_length,
+        is_queued: true,
+        row_height: plan.fixed + plan.needed,
+    }
+}
+
+// The text state after a row whose foot line does not wait.
+fn queue_nothing(plan: Plan, state: TextState) -> TextState
+    requires { ⌜ (plan .fixed ≤ 6) × (plan .needed ≤ messageLimit) ⌝ }
+    ensures { λ r. ⌜ (textViewOf r ≡ record { queued = []; height = plan .fixed + plan .needed }) × QueueFits r ⌝ }
+{
+    let queued_pad_line = state.queued_pad_line;
+    TextState {
+        queued_pad_line,
+        queued_length: 0,
+        is_queued: false,
+        row_height: plan.fixed + plan.needed,
+    }
 }
 
 // Whether an output of so many bytes has room for all lines; they are counted only where it is shorter than they can be at most.
@@ -320,38 +360,16 @@ fn has_room(
     message: &[u8],
     state: TextState,
     separator_line: bool,
-) -> bool {
+) -> bool
+    requires { ⌜ (drawing .width ≤ columnLimit) × (length (now message) ≤ messageLimit) × (plan .fixed ≤ 6) × (plan .needed ≤ messageLimit) ⌝ }
+    requires { ⌜ plan .fixed ≡ fixedLines (drawing .renderer) (drawing .row) ⌝ }
+    ensures { λ r. ⌜ r ≡ leb (length (textOf (allLinesOf (now (table .entry)) drawing plan (now (message .entry)) (textViewOf state) «separator_line»))) size ⌝ }
+{
     if most_bytes(plan, drawing.width, message.len()) <= size {
         return true;
     }
     let above = begin_row_length(state, separator_line);
     above + row_length(table, drawing, plan, message) <= size
-}
-
-// The text state after a row: the foot line waits for the next row if this one has a term line and wrote no foot line.
-fn state_after(table: &[u8], drawing: Drawing, plan: Plan, state: TextState) -> TextState {
-    let row = drawing.row;
-    let placement = plan.placement;
-    let row_height = plan.fixed + plan.needed;
-    let mut queued_pad_line = state.queued_pad_line;
-    if !row.term_line | (at_foot(placement, plan.needed) != 0) {
-        return TextState {
-            queued_pad_line,
-            queued_length: 0,
-            is_queued: false,
-            row_height,
-        };
-    }
-    let mut numbers = [0u8; COLUMN_LIMIT];
-    let cells = choose_cells(&mut numbers, drawing, Line::PostAncestry);
-    let length = cells_length(table, &numbers, cells);
-    let queued_length = write_cells(&mut queued_pad_line, table, &numbers, cells, length);
-    TextState {
-        queued_pad_line,
-        queued_length,
-        is_queued: true,
-        row_height,
-    }
 }
 
 // Writes a row's text out of a table, if the output has room for it.
@@ -363,8 +381,20 @@ fn write_with(
     message: &[u8],
     state: TextState,
     separator_line: bool,
-) -> RowText {
-    if !has_room(out.len(), table, drawing, plan, message, state, separator_line) {
+) -> RowText
+    requires { ⌜ (drawing .width ≤ columnLimit) × (length (now message) ≤ messageLimit) × (plan .fixed ≤ 6) × (plan .needed ≤ messageLimit) ⌝ }
+    requires { ⌜ plan .fixed ≡ fixedLines (drawing .renderer) (drawing .row) ⌝ }
+    ensures { λ r. ⌜ RowWith (now (table .entry)) drawing plan (now (message .entry)) (textViewOf state) «separator_line» (now (out .entry)) (now (out .exit)) r ⌝ }
+{
+    if !has_room(
+        out.len(),
+        table,
+        drawing,
+        plan,
+        message,
+        state,
+        separator_line,
+    ) {
         return RowText {
             refusal: OUTPUT_SHORTER_THAN_LINES,
             length: 0,
@@ -372,12 +402,26 @@ fn write_with(
             state,
         };
     }
-    let put = write_lines(out, table, drawing, plan, message, state, separator_line);
-    let after = state_after(table, drawing, plan, state);
+    let above = begin_row(out, state, separator_line);
+    let at = above.length;
+    let put = write_row(&mut out[at..], table, drawing, plan, message);
+    let row = drawing.row;
+    let length = at + put.length;
+    let measure = greater(above.measure, put.measure);
+    if queues(row, plan) {
+        let after = queue_foot_line(table, drawing, plan, state);
+        return RowText {
+            refusal: ACCEPTED,
+            length,
+            measure,
+            state: after,
+        };
+    }
+    let after = queue_nothing(plan, state);
     RowText {
         refusal: ACCEPTED,
-        length: put.length,
-        measure: put.measure,
+        length,
+        measure,
         state: after,
     }
 }

@@ -1,5 +1,5 @@
 -- A link cell with neither a horizontal stroke nor an upright.
-use Rattle.glyphs.specs.BoxDrawing.{beside}
+use Rattle.glyphs.specs.BoxDrawing.{turning}
 use borrow.Author.Needs.{needs}
 use Rattle.glyphs.proofs.box_drawing.other_link.Statement.{statement}
 use Rattle.glyphs.proofs.box_drawing.other_link.Tie as tie
@@ -23,7 +23,7 @@ intersects-requires-6 : tie.Need-intersects-requires-6
 intersects-requires-6 c κs = search needs
 
 returns : tie.Need-returns
-unfolding beside
+unfolding turning
 returns c =
     let at-intersects4 = c .before .before in
     let at-intersects3 = at-intersects4 .before in
@@ -32,7 +32,7 @@ returns c =
     rw (← at-intersects .intersects .ensures, ← at-intersects2 .intersects2 .ensures, ← at-intersects3 .intersects3 .ensures, ← at-intersects4 .intersects4 .ensures, ← c .before .intersects5 .ensures, c .if1 .taken)
 
 returns-2 : tie.Need-returns-2
-unfolding beside
+unfolding turning
 returns-2 c =
     let at-if1 = c .before .before in
     let at-intersects5 = at-if1 .before in
@@ -43,7 +43,7 @@ returns-2 c =
     rw (← at-intersects .intersects .ensures, ← at-intersects2 .intersects2 .ensures, ← at-intersects3 .intersects3 .ensures, ← at-intersects4 .intersects4 .ensures, ← at-intersects5 .intersects5 .ensures, at-if1 .if1 .left, ← c .before .intersects6 .ensures, c .if2 .taken)
 
 returns-3 : tie.Need-returns-3
-unfolding beside
+unfolding turning
 returns-3 c =
     let at-intersects6 = c .before .before in
     let at-if1 = at-intersects6 .before in
@@ -55,7 +55,7 @@ returns-3 c =
     rw (← at-intersects .intersects .ensures, ← at-intersects2 .intersects2 .ensures, ← at-intersects3 .intersects3 .ensures, ← at-intersects4 .intersects4 .ensures, ← at-intersects5 .intersects5 .ensures, at-if1 .if1 .left, ← at-intersects6 .intersects6 .ensures, c .before .if2 .left, c .if3 .taken)
 
 returns-4 : tie.Need-returns-4
-unfolding beside
+unfolding turning
 returns-4 c =
     let at-if2 = c .before .before in
     let at-intersects6 = at-if2 .before in
@@ -68,7 +68,7 @@ returns-4 c =
     rw (← at-intersects .intersects .ensures, ← at-intersects2 .intersects2 .ensures, ← at-intersects3 .intersects3 .ensures, ← at-intersects4 .intersects4 .ensures, ← at-intersects5 .intersects5 .ensures, at-if1 .if1 .left, ← at-intersects6 .intersects6 .ensures, at-if2 .if2 .left, c .before .if3 .left, c .if4 .taken)
 
 returns-5 : tie.Need-returns-5
-unfolding beside
+unfolding turning
 returns-5 c =
     let at-if3 = c .before .before in
     let at-if2 = at-if3 .before in
@@ -82,7 +82,7 @@ returns-5 c =
     rw (← at-intersects .intersects .ensures, ← at-intersects2 .intersects2 .ensures, ← at-intersects3 .intersects3 .ensures, ← at-intersects4 .intersects4 .ensures, ← at-intersects5 .intersects5 .ensures, at-if1 .if1 .left, ← at-intersects6 .intersects6 .ensures, at-if2 .if2 .left, at-if3 .if3 .left, c .before .if4 .left, c .if5 .taken)
 
 returns-6 : tie.Need-returns-6
-unfolding beside
+unfolding turning
 returns-6 c =
     let at-if4 = c .before .before in
     let at-if3 = at-if4 .before in
@@ -97,7 +97,7 @@ returns-6 c =
     rw (← at-intersects .intersects .ensures, ← at-intersects2 .intersects2 .ensures, ← at-intersects3 .intersects3 .ensures, ← at-intersects4 .intersects4 .ensures, ← at-intersects5 .intersects5 .ensures, at-if1 .if1 .left, ← at-intersects6 .intersects6 .ensures, at-if2 .if2 .left, at-if3 .if3 .left, at-if4 .if4 .left, c .before .if5 .left, c .if6 .taken)
 
 returns-7 : tie.Need-returns-7
-unfolding beside
+unfolding turning
 returns-7 c =
     let at-if5 = c .before .before in
     let at-if4 = at-if5 .before in
@@ -113,7 +113,7 @@ returns-7 c =
     rw (← at-intersects .intersects .ensures, ← at-intersects2 .intersects2 .ensures, ← at-intersects3 .intersects3 .ensures, ← at-intersects4 .intersects4 .ensures, ← at-intersects5 .intersects5 .ensures, at-if1 .if1 .left, ← at-intersects6 .intersects6 .ensures, at-if2 .if2 .left, at-if3 .if3 .left, at-if4 .if4 .left, at-if5 .if5 .left, c .before .if6 .left, c .if7 .taken)
 
 returns-8 : tie.Need-returns-8
-unfolding beside
+unfolding turning
 returns-8 c =
     let at-if6 = c .before .before in
     let at-if5 = at-if6 .before in
@@ -130,7 +130,7 @@ returns-8 c =
     rw (← at-intersects .intersects .ensures, ← at-intersects2 .intersects2 .ensures, ← at-intersects3 .intersects3 .ensures, ← at-intersects4 .intersects4 .ensures, ← at-intersects5 .intersects5 .ensures, at-if1 .if1 .left, ← at-intersects6 .intersects6 .ensures, at-if2 .if2 .left, at-if3 .if3 .left, at-if4 .if4 .left, at-if5 .if5 .left, at-if6 .if6 .left, c .before .if7 .left, c .if8 .taken)
 
 returns-9 : tie.Need-returns-9
-unfolding beside
+unfolding turning
 returns-9 c =
     let at-if6 = c .before .before in
     let at-if5 = at-if6 .before in

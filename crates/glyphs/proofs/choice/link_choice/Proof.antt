@@ -1,7 +1,5 @@
 -- A link line's choice.
-use Rattle.glyphs.specs.declared.types.Line.the-variants.{Link}
-use Rattle.glyphs.specs.Cells.{choiceOf}
-use Rattle.glyphs.proofs.BoxLaws.{box-choice}
+use Rattle.glyphs.proofs.BoxLaws.{box-link}
 use borrow.Author.Needs.{needs}
 use Rattle.glyphs.proofs.choice.link_choice.Statement.{statement}
 use Rattle.glyphs.proofs.choice.link_choice.Tie as tie
@@ -25,17 +23,15 @@ link-glyph-requires : tie.Need-link-glyph-requires
 link-glyph-requires c κs = search needs
 
 returns : tie.Need-returns
-unfolding choiceOf
 returns c = rw (c .before .before .enum-told .given .1, ← c .before .link-upright .ensures, ← c .link-connection .ensures)
 
 returns-2 : tie.Need-returns-2
-unfolding choiceOf
 returns-2 c = rw (c .before .enum-told2 .given .1) (c .top .ensures)
 
 returns-3 : tie.Need-returns-3
 returns-3 c =
     let a = c .before .before .before .before .before .args in
-    rw (box-choice (a .renderer) (a .row) Link (a .place) (c .before .match .keys3), ← c .link-glyph .ensures)
+    rw (box-link (a .renderer) (a .row) (a .place) (c .before .match .keys3), ← c .link-glyph .ensures)
 
 pub link-choice-spec : {M : Type 1} → statement M
 link-choice-spec =

@@ -1,5 +1,4 @@
 -- A second link line's choice, in large ASCII alone.
-use Rattle.glyphs.specs.Cells.{choiceOf}
 use borrow.Author.Needs.{needs}
 use Rattle.glyphs.proofs.choice.second_link_choice.Statement.{statement}
 use Rattle.glyphs.proofs.choice.second_link_choice.Tie as tie
@@ -23,23 +22,18 @@ enum-told-5 : tie.Need-enum-told-5
 enum-told-5 c = search needs
 
 returns : tie.Need-returns
-unfolding choiceOf
 returns c = rw (c .enum-told .given .1)
 
 returns-2 : tie.Need-returns-2
-unfolding choiceOf
 returns-2 c = rw (c .before .enum-told2 .given .1) (c .bottom .ensures)
 
 returns-3 : tie.Need-returns-3
-unfolding choiceOf
 returns-3 c = rw (c .enum-told3 .given .1)
 
 returns-4 : tie.Need-returns-4
-unfolding choiceOf
 returns-4 c = rw (c .enum-told4 .given .1)
 
 returns-5 : tie.Need-returns-5
-unfolding choiceOf
 returns-5 c = rw (c .enum-told5 .given .1)
 
 pub second-link-choice-spec : {M : Type 1} → statement M

@@ -1,0 +1,155 @@
+use borrow.Author.Needs.{needs}
+use Rattle.glyphs.proofs.choice.plain_number.Statement.{statement}
+use Rattle.glyphs.proofs.choice.plain_number.Tie as tie
+use Rattle.glyphs.proofs.choice.plain_number.Reads as reads
+use Rattle.glyphs.proofs.choice.plain_number.Lts as lts
+use Rattle.glyphs.proofs.choice.node_number.Reads as node-number-reads
+use Rattle.glyphs.proofs.choice.pad_number.Reads as pad-number-reads
+use Rattle.glyphs.proofs.choice.term_number.Reads as term-number-reads
+use Rattle.render.proofs.render.NodeLine.to_pad_line.Reads as to-pad-line-reads
+use Rattle.render.proofs.render.PadLine.to_foot_line.Reads as to-foot-line-reads
+
+-- src/choice.rt:159:46
+enum-told : tie.Need-enum-told
+enum-told c = search needs
+
+-- src/choice.rt:159:46
+to-pad-line-requires : tie.Need-to-pad-line-requires
+to-pad-line-requires c κs = search needs
+
+-- src/choice.rt:159:26
+pad-number-requires : tie.Need-pad-number-requires
+pad-number-requires c κs = search needs
+
+-- src/choice.rt:160:23
+enum-told-2 : tie.Need-enum-told-2
+enum-told-2 c = search needs
+
+-- src/choice.rt:160:23
+node-number-requires : tie.Need-node-number-requires
+node-number-requires c κs = search needs
+
+-- src/choice.rt:161:47
+enum-told-3 : tie.Need-enum-told-3
+enum-told-3 c = search needs
+
+-- src/choice.rt:161:47
+to-pad-line-requires-2 : tie.Need-to-pad-line-requires-2
+to-pad-line-requires-2 c κs = search needs
+
+-- src/choice.rt:161:27
+pad-number-requires-2 : tie.Need-pad-number-requires-2
+pad-number-requires-2 c κs = search needs
+
+-- src/choice.rt:162:23
+enum-told-4 : tie.Need-enum-told-4
+enum-told-4 c = search needs
+
+-- src/choice.rt:163:29
+enum-told-5 : tie.Need-enum-told-5
+enum-told-5 c = search needs
+
+-- src/choice.rt:164:23
+enum-told-6 : tie.Need-enum-told-6
+enum-told-6 c = search needs
+
+-- src/choice.rt:164:23
+term-number-requires : tie.Need-term-number-requires
+term-number-requires c κs = search needs
+
+-- src/choice.rt:165:29
+enum-told-7 : tie.Need-enum-told-7
+enum-told-7 c = search needs
+
+-- src/choice.rt:165:29
+term-number-requires-2 : tie.Need-term-number-requires-2
+term-number-requires-2 c κs = search needs
+
+-- src/choice.rt:166:27
+enum-told-8 : tie.Need-enum-told-8
+enum-told-8 c = search needs
+
+-- src/choice.rt:166:27
+pad-number-requires-3 : tie.Need-pad-number-requires-3
+pad-number-requires-3 c κs = search needs
+
+-- src/choice.rt:167:51
+enum-told-9 : tie.Need-enum-told-9
+enum-told-9 c = search needs
+
+-- src/choice.rt:167:51
+to-foot-line-requires : tie.Need-to-foot-line-requires
+to-foot-line-requires c κs = search needs
+
+-- src/choice.rt:167:31
+pad-number-requires-4 : tie.Need-pad-number-requires-4
+pad-number-requires-4 c κs = search needs
+
+-- src/choice.rt:152:1
+returns : tie.Need-returns
+returns c = ?
+
+-- src/choice.rt:152:1
+returns-2 : tie.Need-returns-2
+returns-2 c = ?
+
+-- src/choice.rt:152:1
+returns-3 : tie.Need-returns-3
+returns-3 c = ?
+
+-- src/choice.rt:152:1
+returns-4 : tie.Need-returns-4
+returns-4 c = ?
+
+-- src/choice.rt:152:1
+returns-5 : tie.Need-returns-5
+returns-5 c = ?
+
+-- src/choice.rt:152:1
+returns-6 : tie.Need-returns-6
+returns-6 c = ?
+
+-- src/choice.rt:152:1
+returns-7 : tie.Need-returns-7
+returns-7 c = ?
+
+-- src/choice.rt:152:1
+returns-8 : tie.Need-returns-8
+returns-8 c = ?
+
+-- src/choice.rt:152:1
+returns-9 : tie.Need-returns-9
+returns-9 c = ?
+
+pub plain-number-spec : {M : Type 1} → statement M
+plain-number-spec =
+    tie.close
+    (tie.spec
+    enum-told
+    to-pad-line-requires
+    pad-number-requires
+    enum-told-2
+    node-number-requires
+    enum-told-3
+    to-pad-line-requires-2
+    pad-number-requires-2
+    enum-told-4
+    enum-told-5
+    enum-told-6
+    term-number-requires
+    enum-told-7
+    term-number-requires-2
+    enum-told-8
+    pad-number-requires-3
+    enum-told-9
+    to-foot-line-requires
+    pad-number-requires-4
+    returns
+    returns-2
+    returns-3
+    returns-4
+    returns-5
+    returns-6
+    returns-7
+    returns-8
+    returns-9)

@@ -1,0 +1,53 @@
+use borrow.Author.Needs.{needs}
+use Rattle.glyphs.proofs.choice.plain_numbers.Statement.{statement}
+use Rattle.glyphs.proofs.choice.plain_numbers.Tie as tie
+use Rattle.glyphs.proofs.choice.plain_numbers.Reads as reads
+use Rattle.glyphs.proofs.choice.plain_numbers.Lts as lts
+use Rattle.glyphs.proofs.ascii.plain_numbers.Reads as ascii-plain-numbers-reads
+use Rattle.glyphs.proofs.ascii_large.plain_numbers.Reads as ascii-large-plain-numbers-reads
+use Rattle.glyphs.proofs.box_drawing.plain_numbers.Reads as box-drawing-plain-numbers-reads
+
+-- src/choice.rt:104:28
+enum-told : tie.Need-enum-told
+enum-told c = search needs
+
+-- src/choice.rt:104:28
+plain-numbers-requires : tie.Need-plain-numbers-requires
+plain-numbers-requires c κs = search needs
+
+-- src/choice.rt:105:33
+enum-told-2 : tie.Need-enum-told-2
+enum-told-2 c = search needs
+
+-- src/choice.rt:105:33
+plain-numbers-requires-2 : tie.Need-plain-numbers-requires-2
+plain-numbers-requires-2 c κs = search needs
+
+-- src/choice.rt:106:64
+plain-numbers-requires-3 : tie.Need-plain-numbers-requires-3
+plain-numbers-requires-3 c κs = search needs
+
+-- src/choice.rt:100:1
+returns : tie.Need-returns
+returns c = ?
+
+-- src/choice.rt:100:1
+returns-2 : tie.Need-returns-2
+returns-2 c = ?
+
+-- src/choice.rt:100:1
+returns-3 : tie.Need-returns-3
+returns-3 c = ?
+
+pub plain-numbers-spec : {M : Type 1} → statement M
+plain-numbers-spec =
+    tie.close
+    (tie.spec
+    enum-told
+    plain-numbers-requires
+    enum-told-2
+    plain-numbers-requires-2
+    plain-numbers-requires-3
+    returns
+    returns-2
+    returns-3)
