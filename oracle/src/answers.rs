@@ -21,7 +21,6 @@ pub fn answer(machine: &mut Machine, command: &Command, out: &mut Vec<u8>) {
     let answer = machine.run(command);
     match answer {
         Answer::NotBuilt => line(out, "not built"),
-        Answer::NotHeld => line(out, "not held by the Rust"),
         Answer::List(number) => line(out, &format!("list {number}")),
         Answer::New(number) => {
             line(out, &format!("new {number}"));

@@ -22,6 +22,9 @@ use crate::stream::Text;
 /// The bytes of a queued line's array.
 pub const QUEUE: usize = 512;
 
+/// What stands in a queued line for a byte that is no UTF-8: the crate trims it nowhere, and no call writes it by itself.
+const STAND_IN: u8 = 0x01;
+
 /// The crate's shaper over our ids.
 pub type Shaper = GraphRowShaper<u32>;
 
@@ -33,30 +36,38 @@ pub struct TextState {
 }
 
 impl TextState {
-    /// Whether the crate can hold the queued line, which is a `String` there.
-    pub fn is_held(&self) -> bool {
-        self.queued
-            .as_ref()
-            .is_none_or(|line| std::str::from_utf8(line).is_ok())
-    }
-
-    /// Whether a text call on this state is compared: the crate holds the queued line, there is no 0A in it, and no white space but
-    /// blanks at its end, since the crate trims all white space and ours only blanks.
+    /// Whether a text call on this state is compared: there is no 0A in the queued line, and no white space but blanks at its end, since
+    /// the crate trims all white space and ours only blanks.
     pub fn is_compared(&self) -> bool {
-        let Some(line) = &self.queued else {
+        let Some(line) = self.stood_in() else {
             return true;
         };
-        std::str::from_utf8(line)
-            .is_ok_and(|line| !line.contains('\n') && line.trim_end() == line.trim_end_matches(' '))
+        !line.contains('\n') && line.trim_end() == line.trim_end_matches(' ')
+    }
+
+    /// The queued line as the crate holds it, which is a `String` there: a stand-in for each byte that is no UTF-8.
+    fn stood_in(&self) -> Option<String> {
+        let stand_in = char::from(STAND_IN).to_string();
+        let line = self.queued.as_ref()?.utf8_chunks().map(|chunk| {
+            let stand_ins = stand_in.repeat(chunk.invalid().len());
+            chunk.valid().to_owned() + &stand_ins
+        });
+        Some(line.collect())
+    }
+
+    /// A text that begins with the queued line: each of its bytes for which a stand-in was written is put back.
+    fn put_back(&self, text: &mut [u8]) {
+        let queued = self.queued.iter().flatten();
+        for (written, byte) in text.iter_mut().zip(queued) {
+            if *written == STAND_IN {
+                *written = *byte;
+            }
+        }
     }
 
     /// The crate's state.
     fn to_crate(&self) -> OutputRendererState {
-        let queued = self
-            .queued
-            .as_ref()
-            .map(|line| String::from_utf8_lossy(line).into_owned());
-        OutputRendererState::by_hand(queued, self.row_height)
+        OutputRendererState::by_hand(self.stood_in(), self.row_height)
     }
 
     /// The state out of the crate's.
@@ -80,7 +91,7 @@ pub struct Shape {
 pub struct Written {
     pub shaper: Shaper,
     pub state: TextState,
-    pub text: String,
+    pub text: Vec<u8>,
 }
 
 /// The shaper that a refused new shaper call gives.
@@ -154,26 +165,28 @@ pub fn joined(line: &PrefixLine, mark: u8) -> String {
     prefix_lines_to_text::join(line, glyph(mark).as_str())
 }
 
-/// The lines that a text call writes, whatever the output's length, and the states after it. The state is one that the crate can hold.
-pub fn text(shaper: &Shaper, state: &TextState, text: &Text) -> Result<Written, Refusal> {
-    refusals::mark(text.drawing.mark)?;
-    refusals::message_length(&text.message)?;
-    refusals::message_bytes(&text.message)?;
-    row(shaper, &text.row)?;
-    let mut renderer = text_renderer(shaper, state, text.drawing.renderer);
+/// The lines that a text call writes, whatever the output's length, and the states after it.
+pub fn text(shaper: &Shaper, state: &TextState, call: &Text) -> Result<Written, Refusal> {
+    refusals::mark(call.drawing.mark)?;
+    refusals::message_length(&call.message)?;
+    refusals::message_bytes(&call.message)?;
+    row(shaper, &call.row)?;
+    let mut renderer = text_renderer(shaper, state, call.drawing.renderer);
     let mut out = String::new();
     renderer.write_next_text(
         &mut out,
-        text.row.node,
-        codes::ancestors(&text.row.entries),
-        &glyph(text.drawing.mark),
-        &String::from_utf8_lossy(&text.message),
+        call.row.node,
+        codes::ancestors(&call.row.entries),
+        &glyph(call.drawing.mark),
+        &String::from_utf8_lossy(&call.message),
     );
+    let mut text = out.into_bytes();
+    state.put_back(&mut text);
     let (shaper, stage) = renderer.into_parts();
     Ok(Written {
         shaper,
         state: TextState::from_crate(stage.into_state()),
-        text: out,
+        text,
     })
 }
 
@@ -187,8 +200,9 @@ fn text_renderer(shaper: &Shaper, state: &TextState, code: u8) -> GraphTextRende
 }
 
 /// The byte length, line end not counted, of the longest line of a text.
-pub fn measure(text: &str) -> usize {
-    text.split('\n').map(str::len).max().unwrap_or(0)
+pub fn measure(text: &[u8]) -> usize {
+    let lines = text.split(|byte| *byte == b'\n');
+    lines.map(<[u8]>::len).max().unwrap_or(0)
 }
 
 /// The shaper set by hand: a count above 64 is read as 64, slots not given are Empty.

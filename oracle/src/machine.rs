@@ -26,7 +26,6 @@ const OUTPUT: u32 = 300_000;
 /// What a command answers, beside the states that it leaves.
 pub enum Answer {
     NotBuilt,
-    NotHeld,
     List(u32),
     New(u8),
     Reserve(u8),
@@ -73,9 +72,9 @@ impl Output {
     }
 
     /// Writes a text to the head of the output, if it fits.
-    fn write(&mut self, text: &str) -> Result<(), Refusal> {
+    fn write(&mut self, text: &[u8]) -> Result<(), Refusal> {
         refusals::output(self.bytes.len(), text.len())?;
-        self.bytes[..text.len()].copy_from_slice(text.as_bytes());
+        self.bytes[..text.len()].copy_from_slice(text);
         self.length = text.len();
         Ok(())
     }
@@ -260,15 +259,12 @@ impl Machine {
     fn renderer(&self, drawing: &Drawing) -> Answer {
         let mut output = Output::new(drawing.length);
         let lines = calls::renderer(&self.shape, drawing.renderer, drawing.mark);
-        let (number, _) = split(lines.and_then(|lines| output.write(&lines)));
+        let (number, _) = split(lines.and_then(|lines| output.write(lines.as_bytes())));
         Answer::Renderer(number, output)
     }
 
-    /// Text, unless the crate's state cannot hold the queued line.
+    /// Text.
     fn text(&mut self, text: &Text) -> Answer {
-        if !self.state.is_held() {
-            return Answer::NotHeld;
-        }
         let mut output = Output::new(text.drawing.length);
         let written = calls::text(&self.shaper, &self.state, text);
         let (number, after) = split(written.and_then(|written| {
