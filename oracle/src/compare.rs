@@ -11,6 +11,7 @@ use std::time::Instant;
 use crate::answering::answered;
 use crate::answering::answers_of;
 use crate::calls;
+use crate::kinds;
 use crate::lengths;
 use crate::machine::Counts;
 use crate::refusals;
@@ -43,6 +44,8 @@ pub struct Task {
     pub seconds: Option<u64>,
     /// Whether each refusal that a call can give has to come.
     pub every_refusal: bool,
+    /// Whether each kind of input has to come, with each of its values.
+    pub every_kind: bool,
 }
 
 /// What came out of a comparison.
@@ -92,7 +95,7 @@ impl Findings {
         self.difference = self.difference.take().or(difference);
     }
 
-    /// Prints the counts of calls, of lengths and of refusals, and the closing line.
+    /// Prints the counts of calls, of lengths, of refusals and of kinds of input, and the closing line.
     fn print(&self) {
         println!("lists {}", self.lists);
         for (letter, count) in &self.counts.calls {
@@ -109,25 +112,38 @@ impl Findings {
         for number in 0..=refusals::LAST {
             println!("refusal {number} {}", self.counts.of_refusal(number));
         }
+        self.counts.kinds.print(kinds::OF_LISTS);
         println!("compared {} lists: no difference", self.lists);
     }
 }
 
 impl Task {
-    /// Compares, prints what came out, and says whether there was no difference and, if asked for, every refusal came.
+    /// Compares, prints what came out, and says whether there was no difference and, if asked for, every refusal and every kind came.
     pub fn run(&self) -> bool {
         let Some(findings) = self.findings() else {
             return false;
         };
         findings.print();
-        let missing = findings.counts.refusals_missing();
-        if !self.every_refusal || missing.is_empty() {
-            return true;
+        let missing = self.missing(&findings.counts);
+        missing.iter().for_each(|words| println!("{words}"));
+        missing.is_empty()
+    }
+
+    /// What was asked for and never came, in words.
+    fn missing(&self, counts: &Counts) -> Vec<String> {
+        let mut missing = Vec::new();
+        if self.every_refusal {
+            let never = counts.refusals_missing().into_iter();
+            missing.extend(
+                never.map(|(letter, number)| {
+                    format!("call {letter} was never refused with {number}")
+                }),
+            );
         }
-        for (letter, number) in missing {
-            println!("call {letter} was never refused with {number}");
+        if self.every_kind {
+            missing.extend(counts.kinds.missing(kinds::OF_LISTS));
         }
-        false
+        missing
     }
 
     /// Compares; a difference is printed, and there are no findings then.

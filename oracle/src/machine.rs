@@ -7,6 +7,7 @@ use crate::calls::Shape;
 use crate::calls::Shaper;
 use crate::calls::TextState;
 use crate::codes;
+use crate::kinds::Kinds;
 use crate::records;
 use crate::records::Record;
 use crate::refusals;
@@ -80,14 +81,15 @@ impl Output {
     }
 }
 
-/// How often each call was made, by its letter and refusal number, row, width and text calls also by how many entries they have, and how
-/// many cells renderer calls drew.
+/// How often each call was made, by its letter and refusal number, row, width and text calls also by how many entries they have, how
+/// many cells renderer calls drew, and the kinds of input.
 #[derive(Clone, Debug, Default)]
 pub struct Counts {
     pub calls: BTreeMap<u8, u64>,
     pub refusals: BTreeMap<(u8, u8), u64>,
     pub entries: BTreeMap<(u8, usize), u64>,
     pub cells: u64,
+    pub kinds: Kinds,
 }
 
 impl Counts {
@@ -115,6 +117,7 @@ impl Counts {
             *self.entries.entry(*place).or_default() += count;
         }
         self.cells += other.cells;
+        self.kinds.join(&other.kinds);
     }
 
     /// How often calls with this letter were made.

@@ -121,15 +121,41 @@ impl Generator<'_> {
         let mut state = HandState {
             queued: self.random.pick(&[0, 1, 1, 1, 7]),
             length: self.queued_length(whole),
-            row_height: self
-                .random
-                .pick(&[0, 1, 1, 1, 2, 3, 16, 1 << 32, u64::MAX - 1, u64::MAX]),
+            row_height: self.row_height(),
             bytes,
         };
         if !calls::hand_state(&state).is_compared() {
             state.length = whole;
         }
         state
+    }
+
+    /// A text state with a queued line of any length up to some bytes beyond its array, and of any bytes but 0A.
+    pub fn any_queued(&mut self) -> HandState {
+        let length = self.random.from(0, calls::QUEUE as u64 + 3);
+        let from: Vec<_> = (0..=self.random.pick(&[0x7e, 0xff]))
+            .filter(|byte| *byte != b'\n')
+            .collect();
+        let mut bytes = self.characters(length, &from);
+        let blanks = self.random.pick(&[0, 0, 0, 1, 5, 100]).min(bytes.len());
+        let end = bytes.len();
+        bytes[end - blanks..].fill(b' ');
+        let mut state = HandState {
+            queued: 1,
+            length,
+            row_height: self.row_height(),
+            bytes,
+        };
+        if !calls::hand_state(&state).is_compared() {
+            state.bytes.fill(b'~');
+        }
+        state
+    }
+
+    /// A row height, also such as no call leads to.
+    fn row_height(&mut self) -> u64 {
+        self.random
+            .pick(&[0, 1, 1, 1, 2, 3, 16, 1 << 32, u64::MAX - 1, u64::MAX])
     }
 
     /// The length of a queued line with so many bytes given: those, some more, fewer, or one at the array's end or beyond it.
