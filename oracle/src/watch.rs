@@ -1,6 +1,7 @@
 //! Tells which kinds of input the calls of a list are, from each call, the states before it and its answer.
 
 use std::collections::BTreeMap;
+use std::ops::RangeInclusive;
 
 use crate::codes;
 use crate::kinds::Kind;
@@ -21,11 +22,11 @@ const VERY_LONG: usize = 2000;
 /// For how many rows an id waits that waits long.
 const LONG_WAIT: usize = 1000;
 /// The lengths of messages that are looked at.
-const MESSAGES: std::ops::RangeInclusive<usize> = 41..=510;
+const MESSAGES: RangeInclusive<usize> = 41..=510;
 /// The numbers of entries of a merge of many.
-const OCTOPUS: std::ops::RangeInclusive<usize> = 3..=8;
+const OCTOPUS: RangeInclusive<usize> = 3..=8;
 /// The numbers of columns that are nearly full.
-const NEARLY_FULL: std::ops::RangeInclusive<usize> = 58..=64;
+const NEARLY_FULL: RangeInclusive<usize> = 58..=64;
 /// The greatest queued length that is looked at.
 const QUEUED: u64 = 515;
 
