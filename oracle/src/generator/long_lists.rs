@@ -65,7 +65,8 @@ impl Generator<'_> {
         .collect()
     }
 
-    /// A row after which 58 to 64 ids wait, or that is refused: its node waits mostly, and so does one of its entries now and then.
+    /// A row after which 58 to 64 ids wait, or that is refused: its node waits mostly, often in the last column, and so does one of its
+    /// entries now and then.
     fn row_when_nearly_full(&mut self, fresh: &mut impl Iterator<Item = u32>) -> Row {
         let columns = self.machine.shaper.columns();
         let held: Vec<_> = columns.iter().filter_map(codes::held).collect();
@@ -75,10 +76,10 @@ impl Generator<'_> {
         if !held.is_empty() && self.random.once_in(2) {
             ids.push(self.random.pick(&held));
         }
-        let node = if held.is_empty() || self.random.once_in(8) {
-            ids.pop().unwrap_or_default()
-        } else {
-            self.random.pick(&held)
+        let node = match self.random.weighted(&[1, 5, 5]) {
+            1 if !held.is_empty() => held[held.len() - 1],
+            2 if !held.is_empty() => self.random.pick(&held),
+            _ => ids.pop().unwrap_or_default(),
         };
         let entries = self.entries_of(ids.into_iter());
         Row { node, entries }
