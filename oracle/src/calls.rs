@@ -22,7 +22,7 @@ use crate::stream::Text;
 /// The bytes of a queued line's array.
 pub const QUEUE: usize = 512;
 
-/// What stands in a queued line for a byte that is no UTF-8: the crate trims it nowhere, and no call writes it by itself.
+/// What stands in a queued line for a byte that the crate would not keep: it trims this one nowhere, and no call writes it by itself.
 const STAND_IN: u8 = 0x01;
 
 /// The crate's shaper over our ids.
@@ -36,25 +36,6 @@ pub struct TextState {
 }
 
 impl TextState {
-    /// Whether a text call on this state is compared: there is no 0A in the queued line, and no white space but blanks at its end, since
-    /// the crate trims all white space and ours only blanks.
-    pub fn is_compared(&self) -> bool {
-        let Some(line) = self.stood_in() else {
-            return true;
-        };
-        !line.contains('\n') && line.trim_end() == line.trim_end_matches(' ')
-    }
-
-    /// The queued line as the crate holds it, which is a `String` there: a stand-in for each byte that is no UTF-8.
-    fn stood_in(&self) -> Option<String> {
-        let stand_in = char::from(STAND_IN).to_string();
-        let line = self.queued.as_ref()?.utf8_chunks().map(|chunk| {
-            let stand_ins = stand_in.repeat(chunk.invalid().len());
-            chunk.valid().to_owned() + &stand_ins
-        });
-        Some(line.collect())
-    }
-
     /// A text that begins with the queued line: each of its bytes for which a stand-in was written is put back.
     fn put_back(&self, text: &mut [u8]) {
         let queued = self.queued.iter().flatten();
@@ -67,7 +48,8 @@ impl TextState {
 
     /// The crate's state.
     fn to_crate(&self) -> OutputRendererState {
-        OutputRendererState::by_hand(self.stood_in(), self.row_height)
+        let queued = self.queued.as_deref().map(stood_in);
+        OutputRendererState::by_hand(queued, self.row_height)
     }
 
     /// The state out of the crate's.
@@ -78,6 +60,24 @@ impl TextState {
             row_height,
         }
     }
+}
+
+/// A queued line as the crate is given it: with a stand-in for each byte that is no UTF-8, which its `String` cannot hold, and for white
+/// space other than blanks, a line end too, which it would trim or count and ours takes for what it is: bytes of one line.
+fn stood_in(line: &[u8]) -> String {
+    let mut given = String::new();
+    let stand_in = char::from(STAND_IN).to_string();
+    for chunk in line.utf8_chunks() {
+        for character in chunk.valid().chars() {
+            if character.is_whitespace() && character != ' ' {
+                given.push_str(&stand_in.repeat(character.len_utf8()));
+            } else {
+                given.push(character);
+            }
+        }
+        given.push_str(&stand_in.repeat(chunk.invalid().len()));
+    }
+    given
 }
 
 /// A row's shape. Its lines have as many cells as the width says, but at most 64.
@@ -92,6 +92,7 @@ pub struct Written {
     pub shaper: Shaper,
     pub state: TextState,
     pub text: Vec<u8>,
+    pub measure: usize,
 }
 
 /// The shaper that a refused new shaper call gives.
@@ -180,6 +181,7 @@ pub fn text(shaper: &Shaper, state: &TextState, call: &Text) -> Result<Written, 
         &glyph(call.drawing.mark),
         &String::from_utf8_lossy(&call.message),
     );
+    let measure = measure(&out);
     let mut text = out.into_bytes();
     state.put_back(&mut text);
     let (shaper, stage) = renderer.into_parts();
@@ -187,6 +189,7 @@ pub fn text(shaper: &Shaper, state: &TextState, call: &Text) -> Result<Written, 
         shaper,
         state: TextState::from_crate(stage.into_state()),
         text,
+        measure,
     })
 }
 
@@ -200,9 +203,8 @@ fn text_renderer(shaper: &Shaper, state: &TextState, code: u8) -> GraphTextRende
 }
 
 /// The byte length, line end not counted, of the longest line of a text.
-pub fn measure(text: &[u8]) -> usize {
-    let lines = text.split(|byte| *byte == b'\n');
-    lines.map(<[u8]>::len).max().unwrap_or(0)
+fn measure(text: &str) -> usize {
+    text.split('\n').map(str::len).max().unwrap_or(0)
 }
 
 /// The shaper set by hand: a count above 64 is read as 64, slots not given are Empty.

@@ -10,7 +10,6 @@ use std::time::Instant;
 
 use crate::answering::answered;
 use crate::answering::answers_of;
-use crate::calls;
 use crate::kinds;
 use crate::lengths;
 use crate::machine::Counts;
@@ -234,9 +233,7 @@ impl Task {
     fn report(&self, commands: Vec<Command>) {
         let before = commands.len();
         println!("difference found in {before} commands; making them fewer");
-        let small = shrink::shrink(commands, |commands| {
-            commands.iter().all(is_compared) && self.differs(commands)
-        });
+        let small = shrink::shrink(commands, |commands| self.differs(commands));
         let stream = encode(&small);
         let (answers, _) = answers_of(&stream, &self.built);
         let run = self.replay.within(SHORT_RUN).run(&stream, answers.len());
@@ -256,15 +253,6 @@ impl Task {
                 "the difference does not come again: the program answers one stream in two ways"
             );
         }
-    }
-}
-
-/// Whether a command is one that is compared: it sets no queued line that the crate doesn't hold or doesn't trim as ours.
-fn is_compared(command: &Command) -> bool {
-    match command {
-        Command::State(hand) => calls::hand_state(hand).is_compared(),
-        Command::Repeat(repeat) => repeat.commands.iter().all(is_compared),
-        _ => true,
     }
 }
 

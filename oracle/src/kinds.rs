@@ -19,6 +19,7 @@ pub enum Kind {
     TextMark,
     QueuedLength,
     QueuedByte,
+    QueuedSpace,
     RendererLengths,
     TextLengths,
     BrokenRow,
@@ -76,6 +77,11 @@ pub const OF_LISTS: &[(Kind, usize, &str)] = &[
         Kind::QueuedByte,
         128,
         "queued bytes that are no UTF-8, by byte",
+    ),
+    (
+        Kind::QueuedSpace,
+        5,
+        "queued bytes 09 to 0D, which are white space, by byte",
     ),
     (
         Kind::RendererLengths,

@@ -274,9 +274,7 @@ impl Machine {
             output.write(&written.text)?;
             Ok(written)
         }));
-        let measure = after
-            .as_ref()
-            .map_or(0, |written| calls::measure(&written.text));
+        let measure = after.as_ref().map_or(0, |written| written.measure);
         if let Some(written) = after {
             self.shaper = written.shaper;
             self.state = written.state;

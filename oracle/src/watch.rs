@@ -27,6 +27,8 @@ const MESSAGES: RangeInclusive<usize> = 41..=510;
 const OCTOPUS: RangeInclusive<usize> = 3..=8;
 /// The numbers of columns that are nearly full.
 const NEARLY_FULL: RangeInclusive<usize> = 58..=64;
+/// The bytes of a queued line that are white space, other than the blank.
+const SPACES: RangeInclusive<u8> = 0x09..=0x0d;
 /// The greatest queued length that is looked at.
 const QUEUED: u64 = 515;
 
@@ -45,7 +47,7 @@ struct List {
     nearly_full: usize,
     waiting: BTreeMap<u32, usize>,
     queued: Option<u64>,
-    no_utf8: Vec<u8>,
+    odd_bytes: Vec<(Kind, u8)>,
     lengths: Option<Lengths>,
 }
 
@@ -65,7 +67,7 @@ impl Watch {
                 let seen = codes::flag(state.queued) && state.length <= QUEUED;
                 self.list.queued = seen.then_some(state.length);
             }
-            Command::Text(_) => self.list.no_utf8 = no_utf8(machine),
+            Command::Text(_) => self.list.odd_bytes = odd_bytes(machine),
             _ => {}
         }
         self.columns(machine, command);
@@ -167,8 +169,8 @@ impl Watch {
         if let Some(length) = self.list.queued.take() {
             self.kinds.add(Kind::QueuedLength, length as usize);
         }
-        for byte in self.list.no_utf8.drain(..) {
-            self.kinds.add(Kind::QueuedByte, usize::from(byte));
+        for (kind, byte) in self.list.odd_bytes.drain(..) {
+            self.kinds.add(kind, usize::from(byte));
         }
     }
 
@@ -247,12 +249,16 @@ fn ids(command: &Command) -> Vec<u32> {
         .collect()
 }
 
-/// The bytes of the queued line that are no UTF-8.
-fn no_utf8(machine: &Machine) -> Vec<u8> {
-    let queued = machine.state.queued.iter();
-    queued
-        .flat_map(|line| line.utf8_chunks())
-        .flat_map(|chunk| chunk.invalid().to_vec())
+/// The bytes of the queued line that are no UTF-8, and those that are white space.
+fn odd_bytes(machine: &Machine) -> Vec<(Kind, u8)> {
+    let queued = machine.state.queued.as_deref().unwrap_or_default();
+    let chunks = queued.utf8_chunks();
+    let no_utf8 = chunks
+        .flat_map(|chunk| chunk.invalid())
+        .map(|byte| (Kind::QueuedByte, *byte));
+    let spaces = queued.iter().filter(|byte| SPACES.contains(byte));
+    no_utf8
+        .chain(spaces.map(|byte| (Kind::QueuedSpace, *byte)))
         .collect()
 }
 
