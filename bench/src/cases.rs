@@ -1,4 +1,4 @@
-//! What is timed: the row call and the text call, in three renderers, with 3, 8 and 40 lines open and three messages.
+//! What is timed: the row call and the text call, in three renderers, with 1, 3, 8 and 40 lines open and three messages.
 
 use crate::histories;
 use crate::ours;
@@ -6,8 +6,8 @@ use crate::refusals;
 use crate::rust;
 use crate::rust::Row;
 
-/// How many lines are open.
-pub const LINES: [u32; 3] = [3, 8, 40];
+/// How many lines are open; one is a linear history.
+pub const LINES: [u32; 4] = [1, 3, 8, 40];
 /// The renderers with their numbers.
 const RENDERERS: [(&str, u8); 3] = [("ASCII", 0), ("curved", 3), ("DEC", 4)];
 /// The bytes of our output, in which each row's text is written over the one before it.

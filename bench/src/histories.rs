@@ -1,4 +1,4 @@
-//! The histories: so many lines are opened, then eight rows come again and again that leave the same lines open.
+//! The histories: a linear one, and such as open so many lines, after which eight rows come again and again that leave these open.
 
 use crate::records;
 use crate::refusals;
@@ -12,19 +12,38 @@ const PARENT: u8 = 2;
 /// The mark of every row.
 const MARK: u8 = b'o';
 
-/// Records with so many lines open: the rows that open them, and at least `rows` more.
+/// A node and its parents.
+type Row = (u32, Vec<u32>);
+
+/// Records with so many lines open, at least `rows` of them beside those that open the lines.
 pub fn records(lines: u32, rows: usize) -> Vec<u8> {
-    let cycle = cycle(lines);
-    let cycles = rows.div_ceil(cycle.len());
-    let all = opening(lines)
-        .into_iter()
-        .chain((0..cycles).flat_map(|_| cycle.iter().cloned()));
-    all.flat_map(|(node, parents)| record(node, &parents))
+    let all = match lines {
+        1 => linear(rows),
+        _ => branched(lines, rows),
+    };
+    all.iter()
+        .flat_map(|(node, parents)| record(*node, parents))
         .collect()
 }
 
+/// Rows of which each is the only parent of the one before it.
+fn linear(rows: usize) -> Vec<Row> {
+    (FIRST..)
+        .take(rows)
+        .map(|node| (node, vec![node + 1]))
+        .collect()
+}
+
+/// The rows that open so many lines, then at least so many rows that leave them open.
+fn branched(lines: u32, rows: usize) -> Vec<Row> {
+    let cycle = cycle(lines);
+    let cycles = rows.div_ceil(cycle.len());
+    let again = (0..cycles).flat_map(|_| cycle.iter().cloned());
+    opening(lines).into_iter().chain(again).collect()
+}
+
 /// Rows that open the lines, each as many as a record has room for.
-fn opening(lines: u32) -> Vec<(u32, Vec<u32>)> {
+fn opening(lines: u32) -> Vec<Row> {
     let ids: Vec<u32> = (FIRST..FIRST + lines).collect();
     (1..)
         .zip(ids.chunks(usize::from(refusals::RECORD_ENTRIES)))
@@ -33,7 +52,7 @@ fn opening(lines: u32) -> Vec<(u32, Vec<u32>)> {
 }
 
 /// Eight rows that leave the same lines open: straight rows, a fork and merges, in different columns.
-fn cycle(lines: u32) -> [(u32, Vec<u32>); 8] {
+fn cycle(lines: u32) -> [Row; 8] {
     let (first, middle, last) = (FIRST, FIRST + lines / 2, FIRST + lines - 1);
     [
         (first, vec![first + MOVED]),

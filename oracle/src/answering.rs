@@ -10,6 +10,7 @@ use crate::stream::encode;
 use crate::stream::Command;
 use crate::stream::Commands;
 use crate::stream::Letters;
+use crate::watch::Watch;
 
 /// How many bytes are kept before they are written.
 const KEPT: usize = 1 << 20;
@@ -28,13 +29,17 @@ pub fn answer_to(stream: &[u8], built: &Letters, out: &mut impl Write) -> io::Re
     out.write_all(&text)
 }
 
-/// The answers to a stream, and the counts of its calls.
+/// The answers to a stream, and the counts of its calls and of the kinds of input in it.
 pub fn answers_of(stream: &[u8], built: &Letters) -> (Vec<u8>, Counts) {
     let mut machine = Machine::new(built);
+    let mut watch = Watch::default();
     let mut text = Vec::new();
     for command in Commands::new(stream) {
-        answers::answer(&mut machine, &command, &mut text);
+        watch.before(&machine, &command);
+        let answer = answers::answer(&mut machine, &command, &mut text);
+        watch.after(&machine, &command, &answer);
     }
+    machine.counts.kinds = watch.kinds;
     (text, machine.counts)
 }
 

@@ -17,11 +17,16 @@ use crate::stream::Command;
 use crate::stream::Entry;
 
 /// Runs a command and appends its lines.
-pub fn answer(machine: &mut Machine, command: &Command, out: &mut Vec<u8>) {
+pub fn answer(machine: &mut Machine, command: &Command, out: &mut Vec<u8>) -> Answer {
     let answer = machine.run(command);
+    lines(machine, &answer, out);
+    answer
+}
+
+/// The lines of an answer.
+fn lines(machine: &Machine, answer: &Answer, out: &mut Vec<u8>) {
     match answer {
         Answer::NotBuilt => line(out, "not built"),
-        Answer::NotHeld => line(out, "not held by the Rust"),
         Answer::List(number) => line(out, &format!("list {number}")),
         Answer::New(number) => {
             line(out, &format!("new {number}"));
@@ -39,15 +44,15 @@ pub fn answer(machine: &mut Machine, command: &Command, out: &mut Vec<u8>) {
         Answer::Width(number, width) => line(out, &format!("width {number} {width}")),
         Answer::Renderer(number, written) => {
             line(out, &format!("renderer {number} {}", written.length));
-            output(out, &written);
+            output(out, written);
         }
         Answer::Text(number, written, measure) => {
             line(out, &format!("text {number} {} {measure}", written.length));
-            output(out, &written);
+            output(out, written);
             shaper(out, &machine.shaper);
             state(out, &machine.state);
         }
-        Answer::Record(number, outcome) => record(out, number, outcome),
+        Answer::Record(number, outcome) => record(out, *number, outcome.clone()),
         Answer::Shaper => shaper(out, &machine.shaper),
         Answer::State => state(out, &machine.state),
         Answer::Shape => shape(out, &machine.shape),

@@ -22,6 +22,9 @@ use crate::stream::Text;
 /// The bytes of a queued line's array.
 pub const QUEUE: usize = 512;
 
+/// What stands in a queued line for a byte that the crate would not keep: it trims this one nowhere, and no call writes it by itself.
+const STAND_IN: u8 = 0x01;
+
 /// The crate's shaper over our ids.
 pub type Shaper = GraphRowShaper<u32>;
 
@@ -33,29 +36,19 @@ pub struct TextState {
 }
 
 impl TextState {
-    /// Whether the crate can hold the queued line, which is a `String` there.
-    pub fn is_held(&self) -> bool {
-        self.queued
-            .as_ref()
-            .is_none_or(|line| std::str::from_utf8(line).is_ok())
-    }
-
-    /// Whether a text call on this state is compared: the crate holds the queued line, there is no 0A in it, and no white space but
-    /// blanks at its end, since the crate trims all white space and ours only blanks.
-    pub fn is_compared(&self) -> bool {
-        let Some(line) = &self.queued else {
-            return true;
-        };
-        std::str::from_utf8(line)
-            .is_ok_and(|line| !line.contains('\n') && line.trim_end() == line.trim_end_matches(' '))
+    /// A text that begins with the queued line: each of its bytes for which a stand-in was written is put back.
+    fn put_back(&self, text: &mut [u8]) {
+        let queued = self.queued.iter().flatten();
+        for (written, byte) in text.iter_mut().zip(queued) {
+            if *written == STAND_IN {
+                *written = *byte;
+            }
+        }
     }
 
     /// The crate's state.
     fn to_crate(&self) -> OutputRendererState {
-        let queued = self
-            .queued
-            .as_ref()
-            .map(|line| String::from_utf8_lossy(line).into_owned());
+        let queued = self.queued.as_deref().map(stood_in);
         OutputRendererState::by_hand(queued, self.row_height)
     }
 
@@ -69,6 +62,24 @@ impl TextState {
     }
 }
 
+/// A queued line as the crate is given it: with a stand-in for each byte that is no UTF-8, which its `String` cannot hold, and for white
+/// space other than blanks, a line end too, which it would trim or count and ours takes for what it is: bytes of one line.
+fn stood_in(line: &[u8]) -> String {
+    let mut given = String::new();
+    let stand_in = char::from(STAND_IN).to_string();
+    for chunk in line.utf8_chunks() {
+        for character in chunk.valid().chars() {
+            if character.is_whitespace() && character != ' ' {
+                given.push_str(&stand_in.repeat(character.len_utf8()));
+            } else {
+                given.push(character);
+            }
+        }
+        given.push_str(&stand_in.repeat(chunk.invalid().len()));
+    }
+    given
+}
+
 /// A row's shape. Its lines have as many cells as the width says, but at most 64.
 #[derive(Clone, Debug)]
 pub struct Shape {
@@ -80,7 +91,8 @@ pub struct Shape {
 pub struct Written {
     pub shaper: Shaper,
     pub state: TextState,
-    pub text: String,
+    pub text: Vec<u8>,
+    pub measure: usize,
 }
 
 /// The shaper that a refused new shaper call gives.
@@ -154,26 +166,30 @@ pub fn joined(line: &PrefixLine, mark: u8) -> String {
     prefix_lines_to_text::join(line, glyph(mark).as_str())
 }
 
-/// The lines that a text call writes, whatever the output's length, and the states after it. The state is one that the crate can hold.
-pub fn text(shaper: &Shaper, state: &TextState, text: &Text) -> Result<Written, Refusal> {
-    refusals::mark(text.drawing.mark)?;
-    refusals::message_length(&text.message)?;
-    refusals::message_bytes(&text.message)?;
-    row(shaper, &text.row)?;
-    let mut renderer = text_renderer(shaper, state, text.drawing.renderer);
+/// The lines that a text call writes, whatever the output's length, and the states after it.
+pub fn text(shaper: &Shaper, state: &TextState, call: &Text) -> Result<Written, Refusal> {
+    refusals::mark(call.drawing.mark)?;
+    refusals::message_length(&call.message)?;
+    refusals::message_bytes(&call.message)?;
+    row(shaper, &call.row)?;
+    let mut renderer = text_renderer(shaper, state, call.drawing.renderer);
     let mut out = String::new();
     renderer.write_next_text(
         &mut out,
-        text.row.node,
-        codes::ancestors(&text.row.entries),
-        &glyph(text.drawing.mark),
-        &String::from_utf8_lossy(&text.message),
+        call.row.node,
+        codes::ancestors(&call.row.entries),
+        &glyph(call.drawing.mark),
+        &String::from_utf8_lossy(&call.message),
     );
+    let measure = measure(&out);
+    let mut text = out.into_bytes();
+    state.put_back(&mut text);
     let (shaper, stage) = renderer.into_parts();
     Ok(Written {
         shaper,
         state: TextState::from_crate(stage.into_state()),
-        text: out,
+        text,
+        measure,
     })
 }
 
@@ -187,7 +203,7 @@ fn text_renderer(shaper: &Shaper, state: &TextState, code: u8) -> GraphTextRende
 }
 
 /// The byte length, line end not counted, of the longest line of a text.
-pub fn measure(text: &str) -> usize {
+fn measure(text: &str) -> usize {
     text.split('\n').map(str::len).max().unwrap_or(0)
 }
 

@@ -10,7 +10,7 @@ use std::time::Instant;
 
 use crate::answering::answered;
 use crate::answering::answers_of;
-use crate::calls;
+use crate::kinds;
 use crate::lengths;
 use crate::machine::Counts;
 use crate::refusals;
@@ -43,6 +43,8 @@ pub struct Task {
     pub seconds: Option<u64>,
     /// Whether each refusal that a call can give has to come.
     pub every_refusal: bool,
+    /// Whether each kind of input has to come, with each of its values.
+    pub every_kind: bool,
 }
 
 /// What came out of a comparison.
@@ -92,7 +94,7 @@ impl Findings {
         self.difference = self.difference.take().or(difference);
     }
 
-    /// Prints the counts of calls, of lengths and of refusals, and the closing line.
+    /// Prints the counts of calls, of lengths, of refusals and of kinds of input, and the closing line.
     fn print(&self) {
         println!("lists {}", self.lists);
         for (letter, count) in &self.counts.calls {
@@ -109,25 +111,38 @@ impl Findings {
         for number in 0..=refusals::LAST {
             println!("refusal {number} {}", self.counts.of_refusal(number));
         }
+        self.counts.kinds.print(kinds::OF_LISTS);
         println!("compared {} lists: no difference", self.lists);
     }
 }
 
 impl Task {
-    /// Compares, prints what came out, and says whether there was no difference and, if asked for, every refusal came.
+    /// Compares, prints what came out, and says whether there was no difference and, if asked for, every refusal and every kind came.
     pub fn run(&self) -> bool {
         let Some(findings) = self.findings() else {
             return false;
         };
         findings.print();
-        let missing = findings.counts.refusals_missing();
-        if !self.every_refusal || missing.is_empty() {
-            return true;
+        let missing = self.missing(&findings.counts);
+        missing.iter().for_each(|words| println!("{words}"));
+        missing.is_empty()
+    }
+
+    /// What was asked for and never came, in words.
+    fn missing(&self, counts: &Counts) -> Vec<String> {
+        let mut missing = Vec::new();
+        if self.every_refusal {
+            let never = counts.refusals_missing().into_iter();
+            missing.extend(
+                never.map(|(letter, number)| {
+                    format!("call {letter} was never refused with {number}")
+                }),
+            );
         }
-        for (letter, number) in missing {
-            println!("call {letter} was never refused with {number}");
+        if self.every_kind {
+            missing.extend(counts.kinds.missing(kinds::OF_LISTS));
         }
-        false
+        missing
     }
 
     /// Compares; a difference is printed, and there are no findings then.
@@ -218,9 +233,7 @@ impl Task {
     fn report(&self, commands: Vec<Command>) {
         let before = commands.len();
         println!("difference found in {before} commands; making them fewer");
-        let small = shrink::shrink(commands, |commands| {
-            commands.iter().all(is_compared) && self.differs(commands)
-        });
+        let small = shrink::shrink(commands, |commands| self.differs(commands));
         let stream = encode(&small);
         let (answers, _) = answers_of(&stream, &self.built);
         let run = self.replay.within(SHORT_RUN).run(&stream, answers.len());
@@ -240,15 +253,6 @@ impl Task {
                 "the difference does not come again: the program answers one stream in two ways"
             );
         }
-    }
-}
-
-/// Whether a command is one that is compared: it sets no queued line that the crate doesn't hold or doesn't trim as ours.
-fn is_compared(command: &Command) -> bool {
-    match command {
-        Command::State(hand) => calls::hand_state(hand).is_compared(),
-        Command::Repeat(repeat) => repeat.commands.iter().all(is_compared),
-        _ => true,
     }
 }
 

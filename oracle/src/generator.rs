@@ -1,8 +1,12 @@
 //! Seeded lists of commands, made to collide: few ids, repeats, full columns, and every limit from both sides.
 
+mod broken;
 mod drawings;
+mod every_length;
+mod growing;
 mod hand_made;
 mod histories;
+mod long_lists;
 mod values;
 
 use crate::machine::Machine;
@@ -33,6 +37,11 @@ const THEMES: [(u64, Theme); 5] = [
     (15, [1, 1, 1, 1, 1, 1, 1, 1, 1, 1, 1]),
 ];
 
+/// How seldom a list of thousands of calls comes, and at which places of so many lists.
+const LONG_EVERY: u32 = 500;
+const LONG_HISTORY: u32 = 150;
+const NEARLY_FULL: u32 = 400;
+
 /// The theme of a list of lone rows, between which separators stand.
 const LONE_THEME: Theme = [1, 1, 2, 1, 1, 24, 0, 1, 6, 0, 1];
 
@@ -54,7 +63,11 @@ pub fn list(seed: u64, number: u32, letters: &Letters) -> Vec<Command> {
     let theme = theme(&mut random, letters);
     let mut generator = Generator::new(random, letters, ids, theme);
     generator.push(Command::List(number));
-    generator.fill();
+    match number % LONG_EVERY {
+        LONG_HISTORY => generator.fill_long_history(),
+        NEARLY_FULL => generator.fill_nearly_full(),
+        _ => generator.fill(),
+    }
     generator.commands
 }
 
@@ -108,13 +121,15 @@ impl<'a> Generator<'a> {
 
     /// Fills the list.
     fn fill(&mut self) {
-        let length = match self.random.weighted(&[64, 12, 12, 2, 6, 4]) {
+        let length = match self.random.weighted(&[60, 12, 12, 2, 6, 4, 3, 1]) {
             0 => self.opening(4, 30),
             1 => self.hand_made_opening(4, 30),
             2 => self.wide_opening_by_hand(4, 24),
             3 => self.wide_opening_by_reserving(4, 20),
             4 => self.lone_opening(4, 30),
-            _ => self.opening(80, 160),
+            5 => self.opening(80, 160),
+            6 => self.queues_opening(10, 30),
+            _ => self.every_length_opening(),
         };
         if self.theme.iter().sum::<u64>() > 0 {
             for _ in 0..length {
@@ -154,6 +169,18 @@ impl<'a> Generator<'a> {
             self.push(Command::State(state));
         }
         self.random.from(least, most)
+    }
+
+    /// Opens with text calls, each on a queued line of any length; gives how many commands follow.
+    fn queues_opening(&mut self, least: u64, most: u64) -> u64 {
+        let length = self.opening(1, 4);
+        for _ in 0..self.random.from(least, most) {
+            let state = self.any_queued();
+            self.push(Command::State(state));
+            let text = self.text();
+            self.push(Command::Text(text));
+        }
+        length
     }
 
     /// Opens with 60 to 64 columns set by hand; gives how many commands follow.
@@ -230,6 +257,9 @@ impl<'a> Generator<'a> {
         let mut drawing = self.drawing();
         let need = self.machine.renderer_need(&drawing);
         drawing.length = self.length(need);
+        if self.random.once_in(20) {
+            self.break_drawing(&mut drawing);
+        }
         drawing
     }
 
@@ -242,6 +272,9 @@ impl<'a> Generator<'a> {
         };
         let need = self.machine.text_need(&text);
         text.drawing.length = self.length(need);
+        if self.random.once_in(20) {
+            self.break_text(&mut text);
+        }
         text
     }
 

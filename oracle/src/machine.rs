@@ -7,6 +7,7 @@ use crate::calls::Shape;
 use crate::calls::Shaper;
 use crate::calls::TextState;
 use crate::codes;
+use crate::kinds::Kinds;
 use crate::records;
 use crate::records::Record;
 use crate::refusals;
@@ -26,7 +27,6 @@ const OUTPUT: u32 = 300_000;
 /// What a command answers, beside the states that it leaves.
 pub enum Answer {
     NotBuilt,
-    NotHeld,
     List(u32),
     New(u8),
     Reserve(u8),
@@ -73,22 +73,23 @@ impl Output {
     }
 
     /// Writes a text to the head of the output, if it fits.
-    fn write(&mut self, text: &str) -> Result<(), Refusal> {
+    fn write(&mut self, text: &[u8]) -> Result<(), Refusal> {
         refusals::output(self.bytes.len(), text.len())?;
-        self.bytes[..text.len()].copy_from_slice(text.as_bytes());
+        self.bytes[..text.len()].copy_from_slice(text);
         self.length = text.len();
         Ok(())
     }
 }
 
-/// How often each call was made, by its letter and refusal number, row, width and text calls also by how many entries they have, and how
-/// many cells renderer calls drew.
+/// How often each call was made, by its letter and refusal number, row, width and text calls also by how many entries they have, how
+/// many cells renderer calls drew, and the kinds of input.
 #[derive(Clone, Debug, Default)]
 pub struct Counts {
     pub calls: BTreeMap<u8, u64>,
     pub refusals: BTreeMap<(u8, u8), u64>,
     pub entries: BTreeMap<(u8, usize), u64>,
     pub cells: u64,
+    pub kinds: Kinds,
 }
 
 impl Counts {
@@ -116,6 +117,7 @@ impl Counts {
             *self.entries.entry(*place).or_default() += count;
         }
         self.cells += other.cells;
+        self.kinds.join(&other.kinds);
     }
 
     /// How often calls with this letter were made.
@@ -260,24 +262,19 @@ impl Machine {
     fn renderer(&self, drawing: &Drawing) -> Answer {
         let mut output = Output::new(drawing.length);
         let lines = calls::renderer(&self.shape, drawing.renderer, drawing.mark);
-        let (number, _) = split(lines.and_then(|lines| output.write(&lines)));
+        let (number, _) = split(lines.and_then(|lines| output.write(lines.as_bytes())));
         Answer::Renderer(number, output)
     }
 
-    /// Text, unless the crate's state cannot hold the queued line.
+    /// Text.
     fn text(&mut self, text: &Text) -> Answer {
-        if !self.state.is_held() {
-            return Answer::NotHeld;
-        }
         let mut output = Output::new(text.drawing.length);
         let written = calls::text(&self.shaper, &self.state, text);
         let (number, after) = split(written.and_then(|written| {
             output.write(&written.text)?;
             Ok(written)
         }));
-        let measure = after
-            .as_ref()
-            .map_or(0, |written| calls::measure(&written.text));
+        let measure = after.as_ref().map_or(0, |written| written.measure);
         if let Some(written) = after {
             self.shaper = written.shaper;
             self.state = written.state;

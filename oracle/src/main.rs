@@ -8,6 +8,7 @@ mod codes;
 mod compare;
 mod demand3;
 mod generator;
+mod kinds;
 mod lengths;
 mod machine;
 mod marked;
@@ -22,6 +23,7 @@ mod replay;
 mod shrink;
 mod stream;
 mod vectors;
+mod watch;
 
 // The crate's files name these at the crate's root.
 use renderdag::column;
@@ -52,14 +54,14 @@ use stream::Letters;
 /// How the program is called.
 const USAGE: &str = "usage: oracle answer [--built LETTERS]
        oracle generate N SEED [--built LETTERS]
-       oracle compare N SEED REPLAY [--built LETTERS] [--threads N] [--seconds S] [--timeout S] [--every-refusal]
+       oracle compare N SEED REPLAY [--built LETTERS] [--threads N] [--seconds S] [--timeout S] [--every-refusal] [--every-kind]
        oracle cells [--part K]
        oracle cells-compare REPLAY [--part K] [--built LETTERS] [--threads N] [--timeout S]
        oracle demand3 N SEED [--mutant K]
        oracle vectors [--built LETTERS]
        oracle page
        oracle listing
-       oracle records-compare N SEED PAGE LISTING [--threads N] [--timeout S] [--every-refusal]";
+       oracle records-compare N SEED PAGE LISTING [--threads N] [--timeout S] [--every-refusal] [--every-kind]";
 
 /// The options, each with a value.
 const OPTIONS: [&str; 6] = [
@@ -71,8 +73,9 @@ const OPTIONS: [&str; 6] = [
     "--mutant",
 ];
 
-/// The option without a value: a comparison has to see every refusal that it can.
+/// The options without a value: a comparison has to see every refusal that it can, and every kind of input.
 const EVERY_REFUSAL: &str = "--every-refusal";
+const EVERY_KIND: &str = "--every-kind";
 
 /// How long one run of the program under test may take, in seconds, unless told otherwise.
 const TIMEOUT: u64 = 60;
@@ -135,6 +138,7 @@ fn generated(arguments: &Arguments) -> Result<Task, String> {
     Ok(Task {
         seconds: arguments.option_number("--seconds")?,
         every_refusal: arguments.every_refusal,
+        every_kind: arguments.every_kind,
         ..task
     })
 }
@@ -164,6 +168,7 @@ fn record_files_task(arguments: &Arguments) -> Result<record_compare::Task, Stri
         ],
         threads: arguments.option_number("--threads")?.unwrap_or(1),
         every_refusal: arguments.every_refusal,
+        every_kind: arguments.every_kind,
     })
 }
 
@@ -193,6 +198,7 @@ fn task(arguments: &Arguments, lists: u32, source: Source, place: usize) -> Resu
         threads: arguments.option_number("--threads")?.unwrap_or(1),
         seconds: None,
         every_refusal: false,
+        every_kind: false,
     })
 }
 
@@ -219,11 +225,12 @@ fn print(bytes: &[u8]) -> io::Result<()> {
     io::stdout().lock().write_all(bytes)
 }
 
-/// The arguments: plain ones, options with their values, and the option that has none.
+/// The arguments: plain ones, options with their values, and the options that have none.
 struct Arguments {
     plain: Vec<String>,
     options: Vec<(String, String)>,
     every_refusal: bool,
+    every_kind: bool,
 }
 
 impl Arguments {
@@ -233,6 +240,7 @@ impl Arguments {
             plain: Vec::new(),
             options: Vec::new(),
             every_refusal: false,
+            every_kind: false,
         };
         while let Some(argument) = arguments.next() {
             if OPTIONS.contains(&argument.as_str()) {
@@ -242,6 +250,8 @@ impl Arguments {
                 taken.options.push((argument, value));
             } else if argument == EVERY_REFUSAL {
                 taken.every_refusal = true;
+            } else if argument == EVERY_KIND {
+                taken.every_kind = true;
             } else if argument.starts_with('-') {
                 return Err(format!("{argument} is not known"));
             } else {

@@ -41,11 +41,11 @@ pub fn listing(records: &[u8], out: &mut impl Write) -> io::Result<()> {
 }
 
 /// One record's part of the listing.
-fn listing_row(shaper: &Shaper, record: &Record) -> Result<(Shaper, String), Refusal> {
+fn listing_row(shaper: &Shaper, record: &Record) -> Result<(Shaper, Vec<u8>), Refusal> {
     refusals::mark(record.mark)?;
     let (after, shape) = calls::row(shaper, &row(record))?;
     let lines = calls::prefix_lines(&shape, ASCII);
-    let text = lines
+    let text: String = lines
         .iter()
         .map(|line| {
             format!(
@@ -55,7 +55,7 @@ fn listing_row(shaper: &Shaper, record: &Record) -> Result<(Shaper, String), Ref
             )
         })
         .collect();
-    Ok((after, text))
+    Ok((after, text.into_bytes()))
 }
 
 /// The page program.
@@ -95,7 +95,7 @@ fn row(record: &Record) -> Row {
 fn each(
     mut left: &[u8],
     out: &mut impl Write,
-    mut draw: impl FnMut(Record) -> Result<String, Refusal>,
+    mut draw: impl FnMut(Record) -> Result<Vec<u8>, Refusal>,
 ) -> io::Result<()> {
     for number in 0.. {
         let drawn = match records::record(left) {
@@ -104,7 +104,7 @@ fn each(
             Err(refusal) => Err(refusal),
         };
         match drawn {
-            Ok(text) => out.write_all(text.as_bytes())?,
+            Ok(text) => out.write_all(&text)?,
             Err(Refusal(refusal)) => return writeln!(out, "refused {refusal} at record {number}"),
         }
         left = &left[refusals::RECORD..];

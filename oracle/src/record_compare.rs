@@ -7,11 +7,20 @@ use std::sync::atomic::Ordering;
 use std::sync::Mutex;
 use std::thread;
 
+use crate::kinds;
+use crate::kinds::Kind;
+use crate::kinds::Kinds;
 use crate::programs;
 use crate::record_files;
+use crate::records;
 use crate::refusals;
+use crate::refusals::Refusal;
 use crate::replay::Ended;
 use crate::replay::Replay;
+
+/// A file of more records is long, and very long.
+const LONG: usize = 12;
+const VERY_LONG: usize = 1000;
 
 /// How one of the programs is run on the Rust.
 type Draws = fn(&[u8], &mut Vec<u8>) -> io::Result<()>;
@@ -32,6 +41,8 @@ pub struct Task {
     pub threads: u32,
     /// Whether each refusal at which a program can stop has to come.
     pub every_refusal: bool,
+    /// Whether each kind of file has to come, with each of its values.
+    pub every_kind: bool,
 }
 
 /// What came out of a comparison.
@@ -40,6 +51,7 @@ struct Findings {
     files: u32,
     records: usize,
     refusals: BTreeMap<(&'static str, String), u32>,
+    kinds: Kinds,
     difference: bool,
 }
 
@@ -107,21 +119,30 @@ impl Program {
 }
 
 impl Task {
-    /// Compares, prints what came out, and says whether there was no difference and, if asked for, every refusal came.
+    /// Compares, prints what came out, and says whether there was no difference and, if asked for, every refusal and every kind came.
     pub fn run(&self) -> bool {
         let findings = self.compare();
         if findings.difference {
             return false;
         }
         findings.print();
-        let missing = findings.refusals_missing(&self.programs);
-        if !self.every_refusal || missing.is_empty() {
-            return true;
+        let missing = self.missing(&findings);
+        missing.iter().for_each(|words| println!("{words}"));
+        missing.is_empty()
+    }
+
+    /// What was asked for and never came, in words.
+    fn missing(&self, findings: &Findings) -> Vec<String> {
+        let mut missing = Vec::new();
+        if self.every_refusal {
+            let never = findings.refusals_missing(&self.programs).into_iter();
+            missing
+                .extend(never.map(|(name, number)| format!("{name} never stopped with {number}")));
         }
-        for (name, number) in missing {
-            println!("{name} never stopped with {number}");
+        if self.every_kind {
+            missing.extend(findings.kinds.missing(kinds::OF_FILES));
         }
-        false
+        missing
     }
 
     /// Compares, in as many threads as asked.
@@ -159,11 +180,21 @@ impl Task {
 impl Findings {
     /// Adds a file on which nothing differs.
     fn add(&mut self, file: &[u8], programs: &[Program]) {
+        let records = file.len() / refusals::RECORD;
         self.files += 1;
-        self.records += file.len() / refusals::RECORD;
+        self.records += records;
+        for (kind, fewer) in [(Kind::LongFile, LONG), (Kind::VeryLongFile, VERY_LONG)] {
+            if records > fewer {
+                self.kinds.add(kind, 0);
+            }
+        }
         for program in programs {
-            let refusal = refusal(&program.expected(file)).unwrap_or_else(|| "none".to_owned());
+            let stop = stop(&program.expected(file));
+            let refusal = stop.map_or("none".to_owned(), |stop| stop.refusal.to_string());
             *self.refusals.entry((program.name, refusal)).or_default() += 1;
+            let last = stop.and_then(|stop| file.chunks(refusals::RECORD).nth(stop.record));
+            let broken = last.map_or(Vec::new(), broken);
+            self.kinds.add_pairs(Kind::BrokenRecord, &broken);
         }
     }
 
@@ -186,13 +217,43 @@ impl Findings {
         for ((name, refusal), count) in &self.refusals {
             println!("{name} refusal {refusal} {count}");
         }
+        self.kinds.print(kinds::OF_FILES);
         println!("compared {} record files: no difference", self.files);
     }
 }
 
-/// The number in the line that a program stops with, if it does.
-fn refusal(written: &[u8]) -> Option<String> {
+/// With which refusal a program stops, and at which record.
+#[derive(Clone, Copy)]
+struct Stop {
+    refusal: u8,
+    record: usize,
+}
+
+/// The numbers in the line that a program stops with, if it does.
+fn stop(written: &[u8]) -> Option<Stop> {
     let text = String::from_utf8_lossy(written);
-    let mut words = text.lines().last()?.split(' ');
-    (words.next()? == "refused").then(|| words.next().unwrap_or_default().to_owned())
+    let words: Vec<_> = text.lines().last()?.split(' ').collect();
+    let ["refused", refusal, "at", "record", record] = words[..] else {
+        return None;
+    };
+    Some(Stop {
+        refusal: refusal.parse().ok()?,
+        record: record.parse().ok()?,
+    })
+}
+
+/// The conditions that the bytes of a record, cut or whole, break by themselves, each of them alone: all but that of the columns.
+fn broken(bytes: &[u8]) -> Vec<u8> {
+    let mut whole = bytes.to_vec();
+    whole.resize(refusals::RECORD, 0);
+    let record = records::parts(&whole);
+    let checks = [
+        refusals::record_length(bytes.len()),
+        refusals::record_entries(whole[records::COUNT_AT]),
+        refusals::record_kinds(record.entries.iter().map(|entry| entry.kind)),
+        refusals::mark(record.mark),
+        refusals::message_bytes(&record.message),
+    ];
+    let broken = checks.into_iter().filter_map(Result::err);
+    broken.map(|Refusal(number)| number).collect()
 }

@@ -4,8 +4,15 @@ use crate::random::Random;
 use crate::records;
 use crate::refusals;
 
-/// The most records of a file.
+/// The most records of a short file.
 const RECORDS: u64 = 12;
+/// How seldom a file is long, and very long, and the most records of these.
+const LONG_EVERY: u64 = 10;
+const LONG: u64 = 100;
+const VERY_LONG_EVERY: u64 = 100;
+const VERY_LONG: u64 = 3000;
+/// How far below its child's the id of a parent lies at most in a long file, so that no more lines are open.
+const NEAR: u64 = 20;
 /// Ids that a file draws its few from.
 const IDS: [u32; 10] = [0, u32::MAX, 1, 2, 3, 7, 10, 256, 65_536, u32::MAX - 1];
 /// The first id of a file whose parents are all new.
@@ -22,6 +29,8 @@ enum Ids {
     Few,
     /// Each record's below that of the record before it, and its parents' below that.
     Falling,
+    /// The same, and its parents' not far below, so that the columns never run out.
+    Near,
     /// Parents that no record has named before.
     Fresh,
 }
@@ -38,14 +47,20 @@ struct Maker {
 /// The file with this number.
 pub fn file(seed: u64, number: u32) -> Vec<u8> {
     let mut random = Random::new(seed, u64::from(number));
-    let ids = random.pick(&[
-        Ids::Few,
-        Ids::Few,
-        Ids::Few,
-        Ids::Falling,
-        Ids::Falling,
-        Ids::Fresh,
-    ]);
+    let very_long = u64::from(number) % VERY_LONG_EVERY == VERY_LONG_EVERY / 2;
+    let long = very_long || random.once_in(LONG_EVERY);
+    let ids = if long {
+        random.pick(&[Ids::Few, Ids::Near, Ids::Near])
+    } else {
+        random.pick(&[
+            Ids::Few,
+            Ids::Few,
+            Ids::Few,
+            Ids::Falling,
+            Ids::Falling,
+            Ids::Fresh,
+        ])
+    };
     let few = (0..random.from(2, 6)).map(|_| random.pick(&IDS)).collect();
     let mut maker = Maker {
         random,
@@ -54,19 +69,28 @@ pub fn file(seed: u64, number: u32) -> Vec<u8> {
         next: FRESH,
         bytes: Vec::new(),
     };
-    maker.fill();
+    let records = match (very_long, long) {
+        (true, _) => maker.random.from(VERY_LONG / 3 + 1, VERY_LONG),
+        (_, true) => maker.random.from(RECORDS + 1, LONG),
+        _ => maker.few_records(),
+    };
+    maker.fill(records as u32);
     maker.damage();
     maker.bytes
 }
 
 impl Maker {
-    /// Puts whole records into the file.
-    fn fill(&mut self) {
-        let records = match self.ids {
+    /// How many records a short file has.
+    fn few_records(&mut self) -> u64 {
+        match self.ids {
             Ids::Fresh => RECORDS,
             _ => self.random.from(0, RECORDS),
-        };
-        for left in (0..records as u32).rev() {
+        }
+    }
+
+    /// Puts so many whole records into the file.
+    fn fill(&mut self, records: u32) {
+        for left in (0..records).rev() {
             self.record(left);
         }
     }
@@ -89,7 +113,7 @@ impl Maker {
     fn node(&mut self, left: u32) -> u32 {
         match self.ids {
             Ids::Few => self.random.pick(&self.few),
-            Ids::Falling => left,
+            Ids::Falling | Ids::Near => left,
             Ids::Fresh => FRESH + left,
         }
     }
@@ -119,6 +143,7 @@ impl Maker {
         let kind = self.random.pick(kinds);
         let id = match self.ids {
             Ids::Falling if left > 0 => self.random.below(u64::from(left)) as u32,
+            Ids::Near => left.saturating_sub(self.random.from(1, NEAR) as u32),
             Ids::Fresh => {
                 self.next += 100;
                 self.next
@@ -154,10 +179,14 @@ impl Maker {
 
     /// Leaves the file as it is, cuts it, or damages some of its bytes.
     fn damage(&mut self) {
-        match self.random.weighted(&[12, 3, 8, 3]) {
+        match self.random.weighted(&[12, 3, 8, 6, 3]) {
             0 => {}
             1 => self.cut(),
-            2 => self.spoil(),
+            2 => {
+                let start = self.any_record();
+                self.spoil(start);
+            }
+            3 => self.spoil_much(),
             _ => {
                 for _ in 0..self.random.from(1, 4) {
                     self.alter();
@@ -172,19 +201,36 @@ impl Maker {
         self.bytes.truncate(length as usize);
     }
 
-    /// Puts a byte beyond its limit, or at it, into one of the records.
-    fn spoil(&mut self) {
-        let Some(last) = (self.bytes.len() / refusals::RECORD).checked_sub(1) else {
+    /// Where one of the records begins, if there is one.
+    fn any_record(&mut self) -> Option<usize> {
+        let last = (self.bytes.len() / refusals::RECORD).checked_sub(1)?;
+        Some(self.random.from(0, last as u64) as usize * refusals::RECORD)
+    }
+
+    /// Puts several bytes beyond their limits, or at them, into one of the records, and may end the file within it.
+    fn spoil_much(&mut self) {
+        let start = self.any_record();
+        for _ in 0..self.random.from(2, 8) {
+            self.spoil(start);
+        }
+        if let (Some(start), true) = (start, self.random.once_in(2)) {
+            let length = self.random.from(1, refusals::RECORD as u64 - 1);
+            self.bytes.truncate(start + length as usize);
+        }
+    }
+
+    /// Puts a byte beyond its limit, or at it, into the record that begins there.
+    fn spoil(&mut self, start: Option<usize>) {
+        let Some(start) = start else {
             return;
         };
-        let start = self.random.from(0, last as u64) as usize * refusals::RECORD;
         let entry = self.random.below(u64::from(refusals::RECORD_ENTRIES)) as usize;
         let letter = self
             .random
             .from(records::MESSAGE_AT as u64, refusals::RECORD as u64 - 1);
         let (place, byte) = match self.random.below(4) {
-            0 => (4, self.random.pick(&BAD_MARKS)),
-            1 => (5, self.random.pick(&[8, 9, 10, 255])),
+            0 => (records::MARK_AT, self.random.pick(&BAD_MARKS)),
+            1 => (records::COUNT_AT, self.random.pick(&[8, 9, 10, 255])),
             2 => (
                 records::ENTRIES_AT + entry * records::ENTRY_BYTES,
                 self.random.pick(&[2, 3, 4, 255]),

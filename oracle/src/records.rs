@@ -4,6 +4,9 @@ use crate::refusals;
 use crate::refusals::Refusal;
 use crate::stream::Entry;
 
+/// Where the mark and the parent count stand.
+pub const MARK_AT: usize = 4;
+pub const COUNT_AT: usize = 5;
 /// Where the entries begin.
 pub const ENTRIES_AT: usize = 6;
 /// The bytes of an entry: kind and id.
@@ -27,16 +30,20 @@ pub fn record(left: &[u8]) -> Result<Option<Record>, Refusal> {
         return Ok(None);
     }
     let bytes = &left[..refusals::RECORD];
-    let count = bytes[5];
-    refusals::record_entries(count)?;
-    let entries = entries(&bytes[ENTRIES_AT..], usize::from(count));
-    refusals::record_kinds(entries.iter().map(|entry| entry.kind))?;
-    Ok(Some(Record {
+    refusals::record_entries(bytes[COUNT_AT])?;
+    let record = parts(bytes);
+    refusals::record_kinds(record.entries.iter().map(|entry| entry.kind))?;
+    Ok(Some(record))
+}
+
+/// What the bytes of a record say, of which each may be wrong.
+pub fn parts(bytes: &[u8]) -> Record {
+    Record {
         id: id(bytes),
-        mark: bytes[4],
-        entries,
+        mark: bytes[MARK_AT],
+        entries: entries(&bytes[ENTRIES_AT..MESSAGE_AT], usize::from(bytes[COUNT_AT])),
         message: message(&bytes[MESSAGE_AT..]),
-    }))
+    }
 }
 
 /// The id at the head of some bytes.

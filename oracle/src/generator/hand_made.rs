@@ -9,21 +9,25 @@ use crate::stream::HandShaper;
 use crate::stream::HandState;
 use crate::stream::Slot;
 
-/// What may stand at the end of a queued line: blanks, and characters that are not trimmed.
-const QUEUE_ENDS: [&str; 9] = [
+/// What may stand at the end of a queued line: blanks, and characters that are not trimmed, though the crate would trim some.
+const QUEUE_ENDS: [&str; 13] = [
     "",
     "",
     "",
     " ",
     "   ",
+    "\t",
+    "\n ",
+    "\u{2003}",
+    "\u{3000}  ",
     "\u{200b}",
     "\u{200b} ",
     "\x1b(B",
     "\x1b(B  ",
 ];
 
-/// Parts of a queued line. White space other than blanks never ends it.
-const QUEUE_PARTS: [&str; 11] = [
+/// Parts of a queued line.
+const QUEUE_PARTS: [&str; 12] = [
     "  ",
     "| ",
     "\u{2502} ",
@@ -32,6 +36,7 @@ const QUEUE_PARTS: [&str; 11] = [
     "a",
     "\x1b(0x \x1b(B",
     "\t~",
+    "|\n",
     " \r\x0b\x0ca ",
     "\u{a0}\u{2003}| ",
     "   ",
@@ -114,22 +119,37 @@ impl Generator<'_> {
         }
     }
 
-    /// A text state set by hand. Where its queued line, cut at the length, would be one that is not compared, the line is whole.
+    /// A text state set by hand.
     pub fn hand_state(&mut self) -> HandState {
         let bytes = self.queue();
-        let whole = bytes.len() as u64;
-        let mut state = HandState {
+        HandState {
             queued: self.random.pick(&[0, 1, 1, 1, 7]),
-            length: self.queued_length(whole),
-            row_height: self
-                .random
-                .pick(&[0, 1, 1, 1, 2, 3, 16, 1 << 32, u64::MAX - 1, u64::MAX]),
+            length: self.queued_length(bytes.len() as u64),
+            row_height: self.row_height(),
             bytes,
-        };
-        if !calls::hand_state(&state).is_compared() {
-            state.length = whole;
         }
-        state
+    }
+
+    /// A text state with a queued line of any bytes and of any length up to some bytes beyond its array; blanks end it now and then.
+    pub fn any_queued(&mut self) -> HandState {
+        let length = self.random.from(0, calls::QUEUE as u64 + 3);
+        let from: Vec<_> = (0..=self.random.pick(&[0x7e, 0xff])).collect();
+        let mut bytes = self.characters(length, &from);
+        let blanks = self.random.pick(&[0, 0, 0, 1, 5, 100]).min(bytes.len());
+        let end = bytes.len();
+        bytes[end - blanks..].fill(b' ');
+        HandState {
+            queued: 1,
+            length,
+            row_height: self.row_height(),
+            bytes,
+        }
+    }
+
+    /// A row height, also such as no call leads to.
+    fn row_height(&mut self) -> u64 {
+        self.random
+            .pick(&[0, 1, 1, 1, 2, 3, 16, 1 << 32, u64::MAX - 1, u64::MAX])
     }
 
     /// The length of a queued line with so many bytes given: those, some more, fewer, or one at the array's end or beyond it.

@@ -16,7 +16,23 @@ const BAD_BYTES: [u8; 9] = [0x09, 0x1f, 0x7f, 0x0d, 0x80, 0x00, 0x0b, 0xc2, 0xff
 
 /// The few ids of one list.
 pub fn few_ids(random: &mut Random) -> Vec<u32> {
-    (0..random.from(2, 7)).map(|_| random.pick(&IDS)).collect()
+    let count = random.from(2, 7);
+    if random.once_in(6) {
+        return near_ids(random, count);
+    }
+    (0..count).map(|_| random.pick(&IDS)).collect()
+}
+
+/// So many ids, of which each differs from the first in one bit or in one byte.
+fn near_ids(random: &mut Random, count: u64) -> Vec<u32> {
+    let first = random.next() as u32;
+    let mut ids = vec![first];
+    for _ in 1..count {
+        let bit = 1 << random.below(32);
+        let byte = (random.from(1, 255) as u32) << (8 * random.below(4));
+        ids.push(first ^ random.pick(&[bit, byte]));
+    }
+    ids
 }
 
 impl Generator<'_> {
@@ -110,29 +126,57 @@ impl Generator<'_> {
 
     /// A mark: mostly one that passes.
     pub fn mark(&mut self) -> u8 {
-        match self.random.weighted(&[40, 8, 2]) {
+        match self.random.weighted(&[30, 10, 8, 2]) {
             0 => self.random.pick(b"o@*x"),
-            1 => self.random.pick(&[0x21, 0x7e, b'|', b'~', b'\\']),
-            _ => self
-                .random
-                .pick(&[0x20, 0x7f, 0x00, 0x0a, 0x1f, 0x80, 0xff]),
+            1 => self.any_mark(),
+            2 => self.random.pick(&[0x21, 0x7e, b'|', b'~', b'\\']),
+            _ => self.bad_mark(),
         }
+    }
+
+    /// Any mark that passes.
+    pub fn any_mark(&mut self) -> u8 {
+        self.random.from(0x21, 0x7e) as u8
+    }
+
+    /// A mark that does not pass.
+    pub fn bad_mark(&mut self) -> u8 {
+        let below = self.random.pick(&[0x20, 0x00, 0x0a, 0x1f]);
+        let above = self.random.pick(&[0x7f, 0x80, 0xff]);
+        self.random.pick(&[below, above])
     }
 
     /// A message: short ones, ones of several lines, and both sides of each limit.
     pub fn message(&mut self) -> Vec<u8> {
-        match self.random.weighted(&[24, 8, 34, 20, 4, 3, 1]) {
+        match self.random.weighted(&[22, 8, 28, 18, 4, 3, 1, 14]) {
             0 => Vec::new(),
             1 => self.characters(1, b"a \n"),
             2 => self.short(20, b"abc d"),
             3 => self.short(40, b"ab  \n"),
             4 => self.long(),
             5 => self.damaged(),
-            _ => {
+            6 => {
                 let length = self.random.pick(&[511, 512, 513]);
                 self.characters(length, b"\n\n\n\n\n\n\n\na")
             }
+            _ => self.medium(),
         }
+    }
+
+    /// A message of 41 to 510 bytes: few line ends or many, anywhere, often also at its beginning or its end.
+    pub fn medium(&mut self) -> Vec<u8> {
+        let length = self.random.from(41, 510);
+        let from: &[u8] =
+            self.random
+                .pick(&[b"abcdefgh ~!".as_slice(), b"abc def gh ~!  \n", b"ab \n"]);
+        let mut message = self.characters(length, from);
+        let place = self.random.below(length) as usize;
+        for place in [0, place, length as usize - 1] {
+            if self.random.once_in(3) {
+                message[place] = b'\n';
+            }
+        }
+        message
     }
 
     /// A message of 511 to 513 bytes, or a longer one.
@@ -150,9 +194,14 @@ impl Generator<'_> {
     fn damaged(&mut self) -> Vec<u8> {
         let length = self.random.pick(&[1, 5, 20, 512, 513]);
         let mut message = self.characters(length, b"ab c\n");
-        let place = self.random.below(length) as usize;
-        message[place] = self.random.pick(&BAD_BYTES);
+        self.spoil(&mut message);
         message
+    }
+
+    /// Puts a byte that it may not hold into a message that is not empty.
+    pub fn spoil(&mut self, message: &mut [u8]) {
+        let place = self.random.below(message.len() as u64) as usize;
+        message[place] = self.random.pick(&BAD_BYTES);
     }
 
     /// Up to `most` characters out of `from`.
@@ -162,7 +211,7 @@ impl Generator<'_> {
     }
 
     /// So many characters out of `from`.
-    fn characters(&mut self, length: u64, from: &[u8]) -> Vec<u8> {
+    pub fn characters(&mut self, length: u64, from: &[u8]) -> Vec<u8> {
         (0..length).map(|_| self.random.pick(from)).collect()
     }
 
@@ -190,7 +239,7 @@ impl Generator<'_> {
             0 => {}
             1 => bytes.truncate(self.random.pick(&[1, 5, 64, 126, 127])),
             2 => bytes.clear(),
-            3 => bytes[5] = self.random.pick(&[8, 9, 10, 255]),
+            3 => bytes[records::COUNT_AT] = self.random.pick(&[8, 9, 10, 255]),
             4 => self.spoil_kind(&mut bytes),
             5 => bytes.truncate(self.random.below(128) as usize),
             _ => {

@@ -1,0 +1,174 @@
+//! The kinds of input that a comparison has to see: how often each came, and with how many of its values.
+
+use std::collections::BTreeMap;
+
+/// A kind of input.
+#[derive(Clone, Copy, Debug, PartialEq, Eq, PartialOrd, Ord)]
+pub enum Kind {
+    MessageLength,
+    LineEnd,
+    LongList,
+    LongHistory,
+    LongBranch,
+    Octopus,
+    NearlyFull,
+    NearlyFullList,
+    OneBit,
+    OneByte,
+    RendererMark,
+    TextMark,
+    QueuedLength,
+    QueuedByte,
+    QueuedSpace,
+    RendererLengths,
+    TextLengths,
+    BrokenRow,
+    BrokenRenderer,
+    BrokenText,
+    LongFile,
+    VeryLongFile,
+    BrokenRecord,
+}
+
+/// The kinds of generated lists, each with the number of its values and in words.
+pub const OF_LISTS: &[(Kind, usize, &str)] = &[
+    (
+        Kind::MessageLength,
+        470,
+        "messages of 41 to 510 bytes, by length",
+    ),
+    (Kind::LineEnd, 510, "line ends in these, by place"),
+    (Kind::LongList, 1, "lists of more than 160 calls"),
+    (
+        Kind::LongHistory,
+        1,
+        "lists of more than 2000 accepted rows",
+    ),
+    (Kind::LongBranch, 1, "ids that wait for 1000 rows"),
+    (
+        Kind::Octopus,
+        6,
+        "rows of 3 to 8 parents after the 160th call of a list, by count",
+    ),
+    (Kind::NearlyFull, 7, "calls on 58 to 64 columns, by count"),
+    (
+        Kind::NearlyFullList,
+        1,
+        "lists of more than 2000 calls on 58 to 64 columns",
+    ),
+    (
+        Kind::OneBit,
+        32,
+        "ids that differ from a held one in one bit, by bit",
+    ),
+    (
+        Kind::OneByte,
+        4,
+        "ids that differ from a held one in one byte, by byte",
+    ),
+    (Kind::RendererMark, 94, "marks of renderer calls, by mark"),
+    (Kind::TextMark, 94, "marks of text calls, by mark"),
+    (
+        Kind::QueuedLength,
+        516,
+        "queued lines with a length of 0 to 515, by length",
+    ),
+    (
+        Kind::QueuedByte,
+        128,
+        "queued bytes that are no UTF-8, by byte",
+    ),
+    (
+        Kind::QueuedSpace,
+        5,
+        "queued bytes 09 to 0D, which are white space, by byte",
+    ),
+    (
+        Kind::RendererLengths,
+        1,
+        "renderer calls with every output length",
+    ),
+    (Kind::TextLengths, 1, "text calls with every output length"),
+    (
+        Kind::BrokenRow,
+        1,
+        "row calls with two conditions broken, by pair",
+    ),
+    (
+        Kind::BrokenRenderer,
+        3,
+        "renderer calls with two conditions broken, by pair",
+    ),
+    (
+        Kind::BrokenText,
+        15,
+        "text calls with two conditions broken, by pair",
+    ),
+];
+
+/// The kinds of record files.
+pub const OF_FILES: &[(Kind, usize, &str)] = &[
+    (Kind::LongFile, 1, "files of more than 12 records"),
+    (Kind::VeryLongFile, 1, "files of more than 1000 records"),
+    (
+        Kind::BrokenRecord,
+        10,
+        "last records with two conditions broken, by pair",
+    ),
+];
+
+/// How often each value of each kind came.
+#[derive(Clone, Debug, Default)]
+pub struct Kinds(BTreeMap<(Kind, usize), u64>);
+
+impl Kinds {
+    /// Counts one of a kind, with this value.
+    pub fn add(&mut self, kind: Kind, value: usize) {
+        *self.0.entry((kind, value)).or_default() += 1;
+    }
+
+    /// Counts each pair of conditions that are broken at once.
+    pub fn add_pairs(&mut self, kind: Kind, broken: &[u8]) {
+        for (place, later) in broken.iter().enumerate() {
+            for earlier in &broken[..place] {
+                self.add(kind, usize::from(*earlier) << 8 | usize::from(*later));
+            }
+        }
+    }
+
+    /// Adds the counts of another.
+    pub fn join(&mut self, other: &Kinds) {
+        for (place, count) in &other.0 {
+            *self.0.entry(*place).or_default() += count;
+        }
+    }
+
+    /// How many values of a kind came.
+    fn values(&self, kind: Kind) -> usize {
+        self.0.keys().filter(|(given, _)| *given == kind).count()
+    }
+
+    /// How often a kind came.
+    fn times(&self, kind: Kind) -> u64 {
+        let given = self.0.iter().filter(|((given, _), _)| *given == kind);
+        given.map(|(_, count)| count).sum()
+    }
+
+    /// Prints how often each of these kinds came, and with how many of its values.
+    pub fn print(&self, kinds: &[(Kind, usize, &str)]) {
+        for (kind, values, words) in kinds {
+            let (times, came) = (self.times(*kind), self.values(*kind));
+            println!("kind {words}: {times}, values {came} of {values}");
+        }
+    }
+
+    /// Those of these kinds of which a value never came, in words.
+    pub fn missing(&self, kinds: &[(Kind, usize, &str)]) -> Vec<String> {
+        let missing = kinds
+            .iter()
+            .filter(|(kind, values, _)| self.values(*kind) < *values);
+        missing
+            .map(|(_, _, words)| format!("not each value came of: {words}"))
+            .collect()
+    }
+}
