@@ -1,11 +1,11 @@
 -- A table of glyphs, as it is lent to the writers: the glyphs that it holds, and the numbers by which a renderer's cells are drawn from it.
-use Prim.Native.Nat.{ℕ, zero, suc, _+_, _*_, min}
+use Prim.Native.Nat.{ℕ, zero, suc, _+_, _*_, _≤_, min}
 use mathlib.Core.Path.{_≡_}
 use mathlib.Core.Bool.{cond}
 use mathlib.Core.List.{List, [], _∷_, _++_, map}
 use lib.Dec.{ltb, leb, eqb}
 use lib.ListN.{length, getD, take, drop}
-use Rattle.render.specs.declared.types.Cell.{Cell}
+use Rattle.column.specs.Columns.{columnLimit}
 use Rattle.render.specs.declared.types.DashStyle.{DashStyle}
 use Rattle.glyphs.specs.declared.Renderer.{Renderer}
 use Rattle.glyphs.specs.declared.Renderer.the-variants.{Ascii, AsciiLarge, Square, Curved, Dec}
@@ -175,3 +175,13 @@ pub record WritesCells (text : List ℕ) (behind : ℕ) (before after : List ℕ
   pub bytes : take r after ≡ cond (leb (length text + behind) (length before)) text []
   pub rest : drop (cond (leb (length text + behind) (length before)) (length text + behind) 0) after
       ≡ drop (cond (leb (length text + behind) (length before)) (length text + behind) 0) before
+
+-- the first of some numbers, at most as many as a row has cells
+abbrev pub firstCells : ℕ → List ℕ → List ℕ
+firstCells width numbers = take (min width columnLimit) numbers
+
+-- the numbers of a line's cells chosen into an array, as many as it has room for
+pub record Chooses (numbers before after : List ℕ) (r : ℕ) : Type 0 where
+  pub count : r ≡ min (length numbers) (length before)
+  pub chosen : firstCells r after ≡ take (length before) numbers
+  pub few : length numbers ≤ columnLimit

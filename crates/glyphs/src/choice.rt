@@ -8,7 +8,7 @@ ghost use Rattle.column.specs.Columns.{columnLimit};
 ghost use Rattle.glyphs.specs.Cells.{linkChoice, secondLinkChoice};
 ghost use Rattle.glyphs.specs.Choices.{padChoice, nodeChoice};
 ghost use Rattle.glyphs.specs.Inner.{isLink, linkLineChoice, nextIndex, nextLink, Plain, plainChoice, plainNumber};
-ghost use Rattle.glyphs.specs.Tables.{numberOf, numbersIn};
+ghost use Rattle.glyphs.specs.Tables.{numberOf, numbersIn, Chooses};
 use crate::Renderer;
 use crate::ascii;
 use crate::ascii_large;
@@ -216,14 +216,14 @@ fn is_link(line: Line) -> bool
     }
 }
 
-// Chooses the glyphs of a line, a number for each cell, and gives how many cells it has. Both loops stand here to save a copy of the cells.
-pub fn choose_cells(numbers: &mut [u8; COLUMN_LIMIT], drawing: Drawing, line: Line) -> usize
-    ensures { λ r. ⌜ (r ≤ columnLimit) × (take r (now (numbers .exit)) ≡ numbersIn drawing line) ⌝ }
+// Chooses the glyphs of a line, a number for each cell, as many as there is room for, and gives their count. Both loops stand here to save a copy of the cells.
+pub fn choose_cells(numbers: &mut [u8], drawing: Drawing, line: Line) -> usize
+    ensures { λ r. ⌜ Chooses (numbersIn drawing line) (now (numbers .entry)) (now (numbers .exit)) r ⌝ }
 {
     let renderer = drawing.renderer;
     let row = drawing.row;
     let dash_style = row.dash_style;
-    let count = lesser(drawing.width, COLUMN_LIMIT);
+    let count = lesser(lesser(drawing.width, COLUMN_LIMIT), numbers.len());
     let mut i: usize = 0;
     if is_link(line) {
         while i < count {

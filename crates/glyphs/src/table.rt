@@ -5,7 +5,7 @@ ghost use Prim.Native.Nat.{_+_, _-_, _*_, _≤_, min};
 ghost use lib.ListN.{length, take};
 ghost use Rattle.column.specs.Columns.{columnLimit};
 ghost use Rattle.glyphs.specs.Inner.{WritesWithin};
-ghost use Rattle.glyphs.specs.Tables.{glyphAt, cellsText, WritesCells};
+ghost use Rattle.glyphs.specs.Tables.{glyphAt, cellsText, WritesCells, firstCells};
 ghost use Rattle.message.specs.Message.{trimEnd};
 ghost use Rattle.slices.specs.Joins.{over, Writes};
 use column::COLUMN_LIMIT;
@@ -89,18 +89,25 @@ fn write_cell(out: &mut [u8], table: &[u8], n: u8, left: usize) -> usize
     write_glyph(out, table, n, left)
 }
 
+// How many cells are drawn of so many: no more than there are numbers, and than a row has.
+fn cell_count(numbers: &[u8], width: usize) -> usize
+    ensures { λ r. ⌜ (r ≡ length (firstCells width (now (numbers .entry)))) × (r ≤ columnLimit) ⌝ }
+{
+    lesser(lesser(width, COLUMN_LIMIT), numbers.len())
+}
+
 // Writes the first `end` bytes of the cells of a line that has so many.
 fn write_first(
     out: &mut [u8],
     table: &[u8],
-    numbers: &[u8; COLUMN_LIMIT],
+    numbers: &[u8],
     width: usize,
     end: usize,
 ) -> usize
     requires { ⌜ end ≤ length (now out) ⌝ }
-    ensures { λ r. ⌜ WritesWithin (take end (cellsText (now (table .entry)) (take width (now (numbers .entry))))) end (now (out .entry)) (now (out .exit)) r ⌝ }
+    ensures { λ r. ⌜ WritesWithin (take end (cellsText (now (table .entry)) (firstCells width (now (numbers .entry))))) end (now (out .entry)) (now (out .exit)) r ⌝ }
 {
-    let count = lesser(width, COLUMN_LIMIT);
+    let count = cell_count(numbers, width);
     let mut at: usize = 0;
     let mut i: usize = 0;
     while i < count {
@@ -111,11 +118,11 @@ fn write_first(
 }
 
 // Writes the cells of a line that has eight bytes or more behind them, each by its eight places.
-fn write_by_eight(out: &mut [u8], table: &[u8], numbers: &[u8; COLUMN_LIMIT], width: usize) -> usize
-    requires { ⌜ 8 * min width columnLimit + 8 ≤ length (now out) ⌝ }
-    ensures { λ r. ⌜ WritesWithin (cellsText (now (table .entry)) (take width (now (numbers .entry)))) (r + 8) (now (out .entry)) (now (out .exit)) r ⌝ }
+fn write_by_eight(out: &mut [u8], table: &[u8], numbers: &[u8], width: usize) -> usize
+    requires { ⌜ 8 * length (firstCells width (now numbers)) + 8 ≤ length (now out) ⌝ }
+    ensures { λ r. ⌜ WritesWithin (cellsText (now (table .entry)) (firstCells width (now (numbers .entry)))) (r + 8) (now (out .entry)) (now (out .exit)) r ⌝ }
 {
-    let count = lesser(width, COLUMN_LIMIT);
+    let count = cell_count(numbers, width);
     let mut at: usize = 0;
     let mut i: usize = 0;
     while i < count {
@@ -126,10 +133,10 @@ fn write_by_eight(out: &mut [u8], table: &[u8], numbers: &[u8; COLUMN_LIMIT], wi
 }
 
 // The count of the cells' bytes.
-pub fn cells_length(table: &[u8], numbers: &[u8; COLUMN_LIMIT], width: usize) -> usize
-    ensures { λ r. ⌜ r ≡ length (cellsText (now (table .entry)) (take width (now (numbers .entry)))) ⌝ }
+pub fn cells_length(table: &[u8], numbers: &[u8], width: usize) -> usize
+    ensures { λ r. ⌜ r ≡ length (cellsText (now (table .entry)) (firstCells width (now (numbers .entry)))) ⌝ }
 {
-    let count = lesser(width, COLUMN_LIMIT);
+    let count = cell_count(numbers, width);
     let mut length: usize = 0;
     let mut i: usize = 0;
     while i < count {
@@ -159,10 +166,10 @@ fn blanks_behind(table: &[u8], n: u8) -> usize
 }
 
 // How many blanks stand at the end of the cells, which the finished line lacks.
-pub fn trailing_blanks(table: &[u8], numbers: &[u8; COLUMN_LIMIT], width: usize) -> usize
-    ensures { λ r. ⌜ r ≡ length (cellsText (now (table .entry)) (take width (now (numbers .entry)))) - length (trimEnd (cellsText (now (table .entry)) (take width (now (numbers .entry))))) ⌝ }
+pub fn trailing_blanks(table: &[u8], numbers: &[u8], width: usize) -> usize
+    ensures { λ r. ⌜ r ≡ length (cellsText (now (table .entry)) (firstCells width (now (numbers .entry)))) - length (trimEnd (cellsText (now (table .entry)) (firstCells width (now (numbers .entry))))) ⌝ }
 {
-    let mut n = lesser(width, COLUMN_LIMIT);
+    let mut n = cell_count(numbers, width);
     let mut blanks: usize = 0;
     while 0 < n {
         n -= 1;
@@ -175,9 +182,10 @@ pub fn trailing_blanks(table: &[u8], numbers: &[u8; COLUMN_LIMIT], width: usize)
     blanks
 }
 
-// Whether cells can be written by eight places each: eight bytes or more stand behind them, and an output of so many bytes has room for all that.
-fn is_wide(size: usize, width: usize, behind: usize) -> bool
-    ensures { λ r. ⌜ (r ≡ true → (8 ≤ behind) × (8 * min width columnLimit + behind ≤ size)) ⌝ }
+// Whether so many cells can be written by eight places each: eight bytes or more stand behind them, and an output of so many bytes has room for all that.
+fn is_wide(size: usize, count: usize, behind: usize) -> bool
+    requires { ⌜ count ≤ columnLimit ⌝ }
+    ensures { λ r. ⌜ (r ≡ true → (8 ≤ behind) × (8 * count + behind ≤ size)) ⌝ }
 {
     if behind < 8 {
         return false;
@@ -185,21 +193,21 @@ fn is_wide(size: usize, width: usize, behind: usize) -> bool
     if size < behind {
         return false;
     }
-    8 * lesser(width, COLUMN_LIMIT) <= size - behind
+    8 * count <= size - behind
 }
 
 // Writes the cells of a line that has so many bytes behind them, where there is room for both.
 pub fn write_cells(
     out: &mut [u8],
     table: &[u8],
-    numbers: &[u8; COLUMN_LIMIT],
+    numbers: &[u8],
     width: usize,
     behind: usize,
 ) -> usize
-    ensures { λ r. ⌜ WritesCells (cellsText (now (table .entry)) (take width (now (numbers .entry)))) behind (now (out .entry)) (now (out .exit)) r ⌝ }
+    ensures { λ r. ⌜ WritesCells (cellsText (now (table .entry)) (firstCells width (now (numbers .entry)))) behind (now (out .entry)) (now (out .exit)) r ⌝ }
 {
     let size = out.len();
-    if is_wide(size, width, behind) {
+    if is_wide(size, cell_count(numbers, width), behind) {
         return write_by_eight(out, table, numbers, width);
     }
     let all = cells_length(table, numbers, width);
@@ -216,10 +224,10 @@ pub fn write_cells(
 pub fn write_finished(
     out: &mut [u8],
     table: &[u8],
-    numbers: &[u8; COLUMN_LIMIT],
+    numbers: &[u8],
     width: usize,
 ) -> usize
-    ensures { λ r. ⌜ Writes (trimEnd (cellsText (now (table .entry)) (take width (now (numbers .entry))))) (now (out .entry)) (now (out .exit)) r ⌝ }
+    ensures { λ r. ⌜ Writes (trimEnd (cellsText (now (table .entry)) (firstCells width (now (numbers .entry))))) (now (out .entry)) (now (out .exit)) r ⌝ }
 {
     let end = cells_length(table, numbers, width) - trailing_blanks(table, numbers, width);
     if out.len() < end {

@@ -2,6 +2,7 @@
 ghost use mathlib.Core.Path.{_≡_};
 ghost use Prim.Native.Nat.{_≤_};
 ghost use lib.ListN.{length};
+ghost use Rattle.column.specs.Columns.{columnLimit};
 ghost use Rattle.prefix_lines.specs.Inner.{closing, drawnLine, drawnLines, opening};
 ghost use Rattle.prefix_lines.specs.PrefixLines.{letter};
 ghost use Rattle.slices.specs.Joins.{over};
@@ -79,10 +80,11 @@ fn write_line(
     out: &mut [u8],
     frame: Frame,
     table: &[u8],
-    numbers: &mut [u8; COLUMN_LIMIT],
+    numbers: &mut [u8],
     drawing: Drawing,
     line: Line,
 ) -> usize
+    requires { ⌜ length (now numbers) ≡ columnLimit ⌝ }
     requires { ⌜ length (drawnLine frame (now table) drawing line) ≤ length (now out) ⌝ }
     ensures { λ r. ⌜ (r ≡ length (drawnLine frame (now (table .entry)) drawing line))
         × (now (out .exit) ≡ over (drawnLine frame (now (table .entry)) drawing line) (now (out .entry))) ⌝ }

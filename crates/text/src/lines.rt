@@ -4,7 +4,7 @@ ghost use mathlib.Core.Path.{_≡_};
 ghost use mathlib.Core.List.{List, _∷_, _++_};
 ghost use Prim.Native.Nat.{ℕ, _+_, _≤_};
 ghost use lib.ListN.{length, take, drop, replicate};
-ghost use Rattle.glyphs.specs.Tables.{cellsText};
+ghost use Rattle.glyphs.specs.Tables.{cellsText, firstCells};
 ghost use Rattle.message.specs.Message.{messageLimit, trimEnd};
 ghost use Rattle.output.specs.Output.{ended, measureOf, queueLimit};
 ghost use Rattle.slices.specs.Characters.{blank};
@@ -27,8 +27,8 @@ pub struct Lengths {
 }
 
 // The lengths of a prefix line.
-pub(crate) fn lengths_of(table: &[u8], numbers: &[u8; COLUMN_LIMIT], cells: usize) -> Lengths
-    ensures { λ r. ⌜ Measured (cellsText (now (table .entry)) (take cells (now (numbers .entry)))) r ⌝ }
+pub(crate) fn lengths_of(table: &[u8], numbers: &[u8], cells: usize) -> Lengths
+    ensures { λ r. ⌜ Measured (cellsText (now (table .entry)) (firstCells cells (now (numbers .entry)))) r ⌝ }
 {
     let all = cells_length(table, numbers, cells);
     let finished = all - trailing_blanks(table, numbers, cells);
@@ -60,12 +60,12 @@ fn write_part(out: &mut [u8], part: &[u8]) -> usize
 pub(crate) fn write_text_line(
     out: &mut [u8],
     table: &[u8],
-    numbers: &[u8; COLUMN_LIMIT],
+    numbers: &[u8],
     cells: usize,
     part: &[u8],
 ) -> Put
-    requires { ⌜ length (ended (lineWith (cellsText (now table) (take cells (now numbers))) (now part))) ≤ length (now out) ⌝ }
-    ensures { λ r. ⌜ WritesLine (lineWith (cellsText (now (table .entry)) (take cells (now (numbers .entry)))) (now (part .entry))) (now (out .entry)) (now (out .exit)) r ⌝ }
+    requires { ⌜ length (ended (lineWith (cellsText (now table) (firstCells cells (now numbers))) (now part))) ≤ length (now out) ⌝ }
+    ensures { λ r. ⌜ WritesLine (lineWith (cellsText (now (table .entry)) (firstCells cells (now (numbers .entry)))) (now (part .entry))) (now (out .entry)) (now (out .exit)) r ⌝ }
 {
     let n = trimmed_length(part);
     if n == 0 {

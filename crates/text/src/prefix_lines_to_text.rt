@@ -6,7 +6,7 @@ ghost use Prim.Native.Nat.{ℕ, _+_, _<_, _≤_};
 ghost use lib.Dec.{leb};
 ghost use lib.ListN.{length, take, drop, replicate};
 ghost use Rattle.column.specs.Columns.{columnLimit};
-ghost use Rattle.glyphs.specs.Tables.{numbersIn, cellsText};
+ghost use Rattle.glyphs.specs.Tables.{numbersIn, cellsText, firstCells};
 ghost use Rattle.message.specs.Message.{messageLimit};
 ghost use Rattle.output.specs.Output.{queueLimit, textOf, lineMeasure, textViewOf};
 ghost use Rattle.shaper.specs.Shaper.{heightLimit};
@@ -162,12 +162,13 @@ fn times(plan: Plan, renderer: Renderer, row: Row, line: Line) -> usize
 
 // Chooses the glyphs of a line that is written so often, and gives how many cells it has.
 fn choose_line(
-    numbers: &mut [u8; COLUMN_LIMIT],
+    numbers: &mut [u8],
     drawing: Drawing,
     line: Line,
     times: usize,
 ) -> usize
-    ensures { λ r. ⌜ (0 < times → take r (now (numbers .exit)) ≡ numbersIn drawing line) ⌝ }
+    requires { ⌜ length (now numbers) ≡ columnLimit ⌝ }
+    ensures { λ r. ⌜ (0 < times → firstCells r (now (numbers .exit)) ≡ numbersIn drawing line) ⌝ }
 {
     if times == 0 {
         return 0;
@@ -220,15 +221,15 @@ fn row_length(table: &[u8], drawing: Drawing, plan: Plan, message: &[u8]) -> usi
 fn write_repeated(
     out: &mut [u8],
     table: &[u8],
-    numbers: &[u8; COLUMN_LIMIT],
+    numbers: &[u8],
     cells: usize,
     times: usize,
     message: &[u8],
     start: usize,
 ) -> RowPut
     requires { ⌜ (length (now message) ≤ messageLimit) × (start ≤ length (now message)) × (times ≤ messageLimit) ⌝ }
-    requires { ⌜ length (textOf (drawnLines (replicate times (cellsText (now table) (take cells (now numbers)))) (drop start (now message)))) ≤ length (now out) ⌝ }
-    ensures { λ r. ⌜ RowPuts (replicate times (cellsText (now (table .entry)) (take cells (now (numbers .entry))))) (now (message .entry)) start (now (out .entry)) (now (out .exit)) r ⌝ }
+    requires { ⌜ length (textOf (drawnLines (replicate times (cellsText (now table) (firstCells cells (now numbers)))) (drop start (now message)))) ≤ length (now out) ⌝ }
+    ensures { λ r. ⌜ RowPuts (replicate times (cellsText (now (table .entry)) (firstCells cells (now (numbers .entry))))) (now (message .entry)) start (now (out .entry)) (now (out .exit)) r ⌝ }
 {
     if times == 0 {
         return RowPut {

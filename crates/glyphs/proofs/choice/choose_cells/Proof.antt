@@ -1,3 +1,9 @@
+-- Chooses the glyphs of a line, a number for each cell.
+use borrow.Author.Needs.{needs}
+use Prim.Native.Nat.{_-_}
+use mathlib.Core.Path.{refl}
+use native.Mathlib.Omega.{arith}
+use Rattle.glyphs.proofs.ChoiceLaws.{Chosen, choose-link, choose-plain, choose-all}
 use Rattle.glyphs.proofs.choice.choose_cells.Statement.{statement}
 use Rattle.glyphs.proofs.choice.choose_cells.Tie as tie
 use Rattle.glyphs.proofs.choice.choose_cells.Reads as reads
@@ -12,124 +18,119 @@ use Rattle.glyphs.proofs.choice.plain_numbers.Reads as plain-numbers-re
 use Rattle.slices.proofs.lesser.Reads as lesser-reads
 
 abbrev Inv-loop : tie.InvT-loop
-Inv-loop numbers₀ line drawing renderer row count i₀ numbers i = ?
+Inv-loop numbers₀ line drawing renderer row count i₀ numbers i = Chosen drawing line count i numbers
 
 abbrev μ-loop : tie.MeasureT-loop
-μ-loop numbers₀ line drawing renderer row count i₀ numbers i = ?
+μ-loop numbers₀ line drawing renderer row count i₀ numbers i = count - i
 
 abbrev Inv-loop2 : tie.InvT-loop2
-Inv-loop2 numbers₀ line drawing row count i₀ first others numbers i = ?
+Inv-loop2 numbers₀ line drawing row count i₀ first others numbers i = Chosen drawing line count i numbers
 
 abbrev μ-loop2 : tie.MeasureT-loop2
-μ-loop2 numbers₀ line drawing row count i₀ first others numbers i = ?
+μ-loop2 numbers₀ line drawing row count i₀ first others numbers i = count - i
 
--- src/choice.rt:221:9
 lesser-requires : tie.Need-lesser-requires Inv-loop μ-loop Inv-loop2 μ-loop2
-lesser-requires c κs = ?
+lesser-requires c κs = search needs
 
--- src/choice.rt:223:8
 is-link-requires : tie.Need-is-link-requires Inv-loop μ-loop Inv-loop2 μ-loop2
-is-link-requires c κs = ?
+is-link-requires c κs = search needs
 
--- src/choice.rt:224:9
 loop-holds : tie.Need-loop-holds Inv-loop μ-loop Inv-loop2 μ-loop2
-loop-holds c = ?
+loop-holds c = record { within = omega arith; long = search needs; front = refl }
 
--- src/choice.rt:225:24
 mul-cell : tie.Need-mul-cell Inv-loop μ-loop Inv-loop2 μ-loop2
-mul-cell c = ?
+mul-cell c = search needs
 
--- src/choice.rt:225:24
 element-copy-out-cell : tie.Need-element-copy-out-cell Inv-loop μ-loop Inv-loop2 μ-loop2
-element-copy-out-cell c = ?
+element-copy-out-cell c = search needs
 
--- src/choice.rt:226:17
 next-index-requires : tie.Need-next-index-requires Inv-loop μ-loop Inv-loop2 μ-loop2
-next-index-requires c κs = ?
+next-index-requires c κs = search needs
 
--- src/choice.rt:227:25
 mul-after : tie.Need-mul-after Inv-loop μ-loop Inv-loop2 μ-loop2
-mul-after c = ?
+mul-after c = search needs
 
--- src/choice.rt:227:25
 element-copy-out-after : tie.Need-element-copy-out-after Inv-loop μ-loop Inv-loop2 μ-loop2
-element-copy-out-after c = ?
+element-copy-out-after c = search needs
 
--- src/choice.rt:228:17
 next-link-requires : tie.Need-next-link-requires Inv-loop μ-loop Inv-loop2 μ-loop2
-next-link-requires c κs = ?
+next-link-requires c κs = search needs
 
--- src/choice.rt:234:26
 link-number-requires : tie.Need-link-number-requires Inv-loop μ-loop Inv-loop2 μ-loop2
-link-number-requires c κs = ?
+link-number-requires c κs = search needs
 
--- src/choice.rt:234:13
 element-write-numbers : tie.Need-element-write-numbers Inv-loop μ-loop Inv-loop2 μ-loop2
-element-write-numbers c = ?
+element-write-numbers c = search needs
 
--- src/choice.rt:235:13
 add-i : tie.Need-add-i Inv-loop μ-loop Inv-loop2 μ-loop2
-add-i c = ?
+add-i c = search needs
 
--- src/choice.rt:224:9
 loop-less : tie.Need-loop-less Inv-loop μ-loop Inv-loop2 μ-loop2
-loop-less c = ?
+loop-less c = search needs
 
--- src/choice.rt:224:9
 loop-again : tie.Need-loop-again Inv-loop μ-loop Inv-loop2 μ-loop2
-loop-again c = ?
+loop-again c =
+    let at-cell = c .before .before .before .before in
+    let l = at-cell .before .before .loop in
+    let at-if = at-cell .before .before .before in
+    let start = at-if .before .before .before .before in
+    let a = start .args in
+    choose-link (a .t2) (a .line) _ ? (at-if .before .before .lesser .ensures) (l .i) ? _ refl _ _ _ _ (l .inv) ? (c .before .before .before .next-index .ensures) (c .before .next-link .ensures) (c .link-number .ensures)
 
--- src/choice.rt:237:9
 returns : tie.Need-returns Inv-loop μ-loop Inv-loop2 μ-loop2
-returns c = ?
+returns c =
+    let at-if = c .before .before in
+    let start = at-if .before .before .before .before in
+    let a = start .args in
+    choose-all (a .t2) (a .line) _ ? (at-if .before .before .lesser .ensures) _ _ (c .before .loop .inv) ?
 
--- src/choice.rt:239:9
 plain-numbers-requires : tie.Need-plain-numbers-requires Inv-loop μ-loop Inv-loop2 μ-loop2
-plain-numbers-requires c κs = ?
+plain-numbers-requires c κs = search needs
 
--- src/choice.rt:240:9
 plain-numbers-requires-2 : tie.Need-plain-numbers-requires-2 Inv-loop μ-loop Inv-loop2 μ-loop2
-plain-numbers-requires-2 c κs = ?
+plain-numbers-requires-2 c κs = search needs
 
--- src/choice.rt:241:5
 loop2-holds : tie.Need-loop2-holds Inv-loop μ-loop Inv-loop2 μ-loop2
-loop2-holds c = ?
+loop2-holds c = record { within = omega arith; long = search needs; front = refl }
 
--- src/choice.rt:242:20
 mul-cell-2 : tie.Need-mul-cell-2 Inv-loop μ-loop Inv-loop2 μ-loop2
-mul-cell-2 c = ?
+mul-cell-2 c = search needs
 
--- src/choice.rt:242:20
 element-copy-out-cell-2 : tie.Need-element-copy-out-cell-2 Inv-loop μ-loop Inv-loop2 μ-loop2
-element-copy-out-cell-2 c = ?
+element-copy-out-cell-2 c = search needs
 
--- src/choice.rt:243:35
 numbers-at-requires : tie.Need-numbers-at-requires Inv-loop μ-loop Inv-loop2 μ-loop2
-numbers-at-requires c κs = ?
+numbers-at-requires c κs = search needs
 
--- src/choice.rt:243:22
 plain-number-requires : tie.Need-plain-number-requires Inv-loop μ-loop Inv-loop2 μ-loop2
-plain-number-requires c κs = ?
+plain-number-requires c κs = search needs
 
--- src/choice.rt:243:9
 element-write-numbers-2 : tie.Need-element-write-numbers-2 Inv-loop μ-loop Inv-loop2 μ-loop2
-element-write-numbers-2 c = ?
+element-write-numbers-2 c = search needs
 
--- src/choice.rt:244:9
 add-i-2 : tie.Need-add-i-2 Inv-loop μ-loop Inv-loop2 μ-loop2
-add-i-2 c = ?
+add-i-2 c = search needs
 
--- src/choice.rt:241:5
 loop2-less : tie.Need-loop2-less Inv-loop μ-loop Inv-loop2 μ-loop2
-loop2-less c = ?
+loop2-less c = search needs
 
--- src/choice.rt:241:5
 loop2-again : tie.Need-loop2-again Inv-loop μ-loop Inv-loop2 μ-loop2
-loop2-again c = ?
+loop2-again c =
+    let at-numbers = c .before in
+    let l = at-numbers .before .before .before .loop2 in
+    let at-plain = at-numbers .before .before .before .before in
+    let at-if = at-plain .before .before in
+    let start = at-if .before .before .before .before in
+    let a = start .args in
+    choose-plain (a .t2) (a .line) _ ? (at-if .before .before .lesser .ensures) (l .i) ? _ refl _ _ _ _ _ (l .inv) ? (at-plain .before .plain-numbers .ensures) (at-plain .plain-numbers2 .ensures) (at-numbers .numbers-at .ensures) (c .plain-number .ensures)
 
--- src/choice.rt:215:1
 returns-2 : tie.Need-returns-2 Inv-loop μ-loop Inv-loop2 μ-loop2
-returns-2 c = ?
+returns-2 c =
+    let at-plain = c .before .before in
+    let at-if = at-plain .before .before in
+    let start = at-if .before .before .before .before in
+    let a = start .args in
+    choose-all (a .t2) (a .line) _ ? (at-if .before .before .lesser .ensures) _ _ (c .before .loop2 .inv) ?
 
 pub choose-cells-spec : {M : Type 1} → statement M
 choose-cells-spec =

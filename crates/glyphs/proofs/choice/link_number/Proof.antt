@@ -1,3 +1,4 @@
+-- The number by which a cell of a link line is drawn.
 use borrow.Author.Needs.{needs}
 use Rattle.glyphs.proofs.choice.link_number.Statement.{statement}
 use Rattle.glyphs.proofs.choice.link_number.Tie as tie
@@ -6,21 +7,17 @@ use Rattle.glyphs.proofs.choice.link_number.Lts as lts
 use Rattle.glyphs.proofs.choice.link_line_choice.Reads as link-line-choice-reads
 use Rattle.glyphs.proofs.choice.number_of.Reads as number-of-reads
 
--- src/choice.rt:193:9
 link-line-choice-requires : tie.Need-link-line-choice-requires
 link-line-choice-requires c κs = search needs
 
--- src/choice.rt:194:5
 number-of-requires : tie.Need-number-of-requires
 number-of-requires c κs = search needs
 
--- src/choice.rt:194:5
 cast-result : tie.Need-cast-result
 cast-result c = ?
 
--- src/choice.rt:189:1
 returns : tie.Need-returns
-returns c = ?
+returns c = rw (← c .before .link-line-choice .ensures) (c .number-of .ensures)
 
 pub link-number-spec : {M : Type 1} → statement M
 link-number-spec =

@@ -1,3 +1,6 @@
+-- The number by which a renderer draws what a cell was given.
+use Rattle.glyphs.specs.Tables.{numberOf}
+use Rattle.glyphs.proofs.BoxLaws.{box-number}
 use borrow.Author.Needs.{needs}
 use Rattle.glyphs.proofs.choice.number_of.Statement.{statement}
 use Rattle.glyphs.proofs.choice.number_of.Tie as tie
@@ -7,37 +10,31 @@ use Rattle.glyphs.proofs.ascii.number.Reads as ascii-number-reads
 use Rattle.glyphs.proofs.ascii_large.number.Reads as ascii-large-number-reads
 use Rattle.glyphs.proofs.box_drawing.number.Reads as box-drawing-number-reads
 
--- src/choice.rt:93:28
 enum-told : tie.Need-enum-told
 enum-told c = search needs
 
--- src/choice.rt:93:28
 number-requires : tie.Need-number-requires
 number-requires c κs = search needs
 
--- src/choice.rt:94:33
 enum-told-2 : tie.Need-enum-told-2
 enum-told-2 c = search needs
 
--- src/choice.rt:94:33
 number-requires-2 : tie.Need-number-requires-2
 number-requires-2 c κs = search needs
 
--- src/choice.rt:95:64
 number-requires-3 : tie.Need-number-requires-3
 number-requires-3 c κs = search needs
 
--- src/choice.rt:89:1
 returns : tie.Need-returns
-returns c = ?
+unfolding numberOf
+returns c = rw (c .before .enum-told .given .1) (c .number .ensures)
 
--- src/choice.rt:89:1
 returns-2 : tie.Need-returns-2
-returns-2 c = ?
+unfolding numberOf
+returns-2 c = rw (c .before .enum-told2 .given .1) (c .number2 .ensures)
 
--- src/choice.rt:89:1
 returns-3 : tie.Need-returns-3
-returns-3 c = ?
+returns-3 c = rw (box-number _ _ _ _ (c .before .match .keys3)) (c .number3 .ensures)
 
 pub number-of-spec : {M : Type 1} → statement M
 number-of-spec =

@@ -1,3 +1,8 @@
+-- The number by which a cell of a line is drawn that is no link line.
+use Rattle.glyphs.specs.declared.types.Choice.the-variants.{Solid, End}
+use Rattle.glyphs.specs.Choices.{padChoice}
+use mathlib.Core.Path.{_∙_}
+use Rattle.glyphs.proofs.ChoiceLaws.{plain-cond}
 use borrow.Author.Needs.{needs}
 use Rattle.glyphs.proofs.choice.plain_number.Statement.{statement}
 use Rattle.glyphs.proofs.choice.plain_number.Tie as tie
@@ -9,117 +14,93 @@ use Rattle.glyphs.proofs.choice.term_number.Reads as term-number-reads
 use Rattle.render.proofs.render.NodeLine.to_pad_line.Reads as to-pad-line-reads
 use Rattle.render.proofs.render.PadLine.to_foot_line.Reads as to-foot-line-reads
 
--- src/choice.rt:159:46
 enum-told : tie.Need-enum-told
 enum-told c = search needs
 
--- src/choice.rt:159:46
 to-pad-line-requires : tie.Need-to-pad-line-requires
 to-pad-line-requires c κs = search needs
 
--- src/choice.rt:159:26
 pad-number-requires : tie.Need-pad-number-requires
 pad-number-requires c κs = search needs
 
--- src/choice.rt:160:23
 enum-told-2 : tie.Need-enum-told-2
 enum-told-2 c = search needs
 
--- src/choice.rt:160:23
 node-number-requires : tie.Need-node-number-requires
 node-number-requires c κs = search needs
 
--- src/choice.rt:161:47
 enum-told-3 : tie.Need-enum-told-3
 enum-told-3 c = search needs
 
--- src/choice.rt:161:47
 to-pad-line-requires-2 : tie.Need-to-pad-line-requires-2
 to-pad-line-requires-2 c κs = search needs
 
--- src/choice.rt:161:27
 pad-number-requires-2 : tie.Need-pad-number-requires-2
 pad-number-requires-2 c κs = search needs
 
--- src/choice.rt:162:23
 enum-told-4 : tie.Need-enum-told-4
 enum-told-4 c = search needs
 
--- src/choice.rt:163:29
 enum-told-5 : tie.Need-enum-told-5
 enum-told-5 c = search needs
 
--- src/choice.rt:164:23
 enum-told-6 : tie.Need-enum-told-6
 enum-told-6 c = search needs
 
--- src/choice.rt:164:23
 term-number-requires : tie.Need-term-number-requires
 term-number-requires c κs = search needs
 
--- src/choice.rt:165:29
 enum-told-7 : tie.Need-enum-told-7
 enum-told-7 c = search needs
 
--- src/choice.rt:165:29
 term-number-requires-2 : tie.Need-term-number-requires-2
 term-number-requires-2 c κs = search needs
 
--- src/choice.rt:166:27
 enum-told-8 : tie.Need-enum-told-8
 enum-told-8 c = search needs
 
--- src/choice.rt:166:27
 pad-number-requires-3 : tie.Need-pad-number-requires-3
 pad-number-requires-3 c κs = search needs
 
--- src/choice.rt:167:51
 enum-told-9 : tie.Need-enum-told-9
 enum-told-9 c = search needs
 
--- src/choice.rt:167:51
 to-foot-line-requires : tie.Need-to-foot-line-requires
 to-foot-line-requires c κs = search needs
 
--- src/choice.rt:167:31
 pad-number-requires-4 : tie.Need-pad-number-requires-4
 pad-number-requires-4 c κs = search needs
 
--- src/choice.rt:152:1
 returns : tie.Need-returns
-returns c = ?
+returns c = rw (c .before .before .enum-told .given .1, ← c .before .to-pad-line .ensures) (c .pad-number .ensures)
 
--- src/choice.rt:152:1
 returns-2 : tie.Need-returns-2
-returns-2 c = ?
+returns-2 c = rw (c .before .enum-told2 .given .1) (c .node-number .ensures)
 
--- src/choice.rt:152:1
 returns-3 : tie.Need-returns-3
-returns-3 c = ?
+returns-3 c = rw (c .before .before .enum-told3 .given .1, ← c .before .to-pad-line2 .ensures) (c .pad-number2 .ensures)
 
--- src/choice.rt:152:1
 returns-4 : tie.Need-returns-4
-returns-4 c = ?
+returns-4 c = rw (c .enum-told4 .given .1)
 
--- src/choice.rt:152:1
 returns-5 : tie.Need-returns-5
-returns-5 c = ?
+returns-5 c = rw (c .enum-told5 .given .1)
 
--- src/choice.rt:152:1
 returns-6 : tie.Need-returns-6
-returns-6 c = ?
+returns-6 c =
+    let a = c .before .before .before .args in
+    rw (c .before .enum-told6 .given .1) (c .term-number .ensures ∙ plain-cond (a .t1) (a .t4 .term) Solid (padChoice (a .t4 .ancestry)))
 
--- src/choice.rt:152:1
 returns-7 : tie.Need-returns-7
-returns-7 c = ?
+returns-7 c =
+    let a = c .before .before .before .args in
+    rw (c .before .enum-told7 .given .1) (c .term-number2 .ensures ∙ plain-cond (a .t1) (a .t4 .term) End (padChoice (a .t4 .ancestry)))
 
--- src/choice.rt:152:1
 returns-8 : tie.Need-returns-8
-returns-8 c = ?
+returns-8 c = rw (c .before .enum-told8 .given .1) (c .pad-number3 .ensures)
 
--- src/choice.rt:152:1
 returns-9 : tie.Need-returns-9
-returns-9 c = ?
+returns-9 c = rw (c .before .before .enum-told9 .given .1, ← c .before .to-foot-line .ensures) (c .pad-number4 .ensures)
 
 pub plain-number-spec : {M : Type 1} → statement M
 plain-number-spec =

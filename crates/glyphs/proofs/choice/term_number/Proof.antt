@@ -1,3 +1,4 @@
+-- The number of a term line's cell.
 use borrow.Author.Needs.{needs}
 use Rattle.glyphs.proofs.choice.term_number.Statement.{statement}
 use Rattle.glyphs.proofs.choice.term_number.Tie as tie
@@ -5,17 +6,14 @@ use Rattle.glyphs.proofs.choice.term_number.Reads as reads
 use Rattle.glyphs.proofs.choice.term_number.Lts as lts
 use Rattle.glyphs.proofs.choice.pad_number.Reads as pad-number-reads
 
--- src/choice.rt:145:9
 returns : tie.Need-returns
 returns c = search needs
 
--- src/choice.rt:148:5
 pad-number-requires : tie.Need-pad-number-requires
 pad-number-requires c κs = search needs
 
--- src/choice.rt:141:1
 returns-2 : tie.Need-returns-2
-returns-2 c = ?
+returns-2 c = rw (c .before .if1 .left) (c .pad-number .ensures)
 
 pub term-number-spec : {M : Type 1} → statement M
 term-number-spec = tie.close (tie.spec returns pad-number-requires returns-2)
