@@ -1,5 +1,5 @@
 -- Laws of the numbers chosen for a line's cells, one by one: what the loops over the cells cite.
-use mathlib.Core.Path.{_≡_, refl, sym, ap, _∙_}
+use mathlib.Core.Path.{_≡_, refl, sym, ap, ap₂, _∙_}
 use mathlib.Core.Bool.{Bool, true, false, cond}
 use mathlib.Core.List.{List, [], _∷_, _++_, map}
 use Prim.Native.Nat.{ℕ, zero, suc, _+_, _<_, _≤_, min}
@@ -7,13 +7,14 @@ use native.Mathlib.Nat.{not-suc-le-zero, le-of-suc-le-suc, add-zero, zero-add}
 use native.Mathlib.Numerals.{add-one}
 use native.Mathlib.Omega.{arith}
 use lib.Dec.{ltb}
-use lib.ListN.{length, getD, take, set, length-take, length-set}
+use lib.ListN.{length, getD, take, set, length-take, length-set, length-map}
 use lib.Seq.{take-suc, take-all, take-suc-set}
 use borrow.Author.Tests.{ltb-true, ltb-false, lt-ltb}
 use Rattle.column.specs.Columns.{columnLimit}
 use Rattle.render.specs.declared.render.LinkLine.{LinkLine}
 use Rattle.render.specs.declared.types.Cell.{Cell}
 use Rattle.render.specs.declared.types.DashStyle.{DashStyle}
+use Rattle.render.proofs.types.Cell.{the-type}
 use Rattle.render.specs.Lines.{blankCell, nodeToPad, footPad}
 use Rattle.render.specs.Link.{noMarks}
 use Rattle.glyphs.specs.declared.Renderer.{Renderer}
@@ -34,7 +35,7 @@ use Rattle.glyphs.specs.Cells.{choiceOf}
 use Rattle.glyphs.specs.Choices.{padChoice, nodeChoice, termChoice}
 use Rattle.glyphs.specs.Inner.{isLink, linkLineChoice, nextIndex, nextLink, Plain, plainChoice, plainNumber}
 use Rattle.glyphs.specs.Row.{places}
-use Rattle.glyphs.specs.Tables.{numberOf, numbersFrom, numbersIn}
+use Rattle.glyphs.specs.Tables.{numberOf, numbersFrom, numbersIn, Chooses}
 use Rattle.glyphs.proofs.PlaceLaws.{place-made, cells-fitting}
 
 -- ---- the numbers of a cell that is given no link
@@ -110,6 +111,20 @@ link-same q row Ancestry p h = cc
 link-same q row PostAncestry p h = cc
 
 -- ---- the numbers of a line by place
+
+-- a count past the end takes no more
+take-capped : (k : ℕ) (l : List ℕ) → take (min (length l) k) l ≡ take k l
+take-capped k l = go (ltb k (length l)) refl
+  where
+    go : (b : Bool) → ltb k (length l) ≡ b → take (min (length l) k) l ≡ take k l
+    go true e =
+        let h : min (length l) k ≡ k = omega (arith, ltb-true k (length l) e) in
+        ap (λ (n : ℕ). take n l) h
+    go false e =
+        let h : length l ≤ k = ltb-false k (length l) e in
+        let j : length l ≤ min (length l) k = omega arith in
+        take-all (min (length l) k) l j ∙ sym (take-all k l h)
+
 abbrev pub noPlace : Place
 noPlace = record { index = 0; cell = blankCell; next = noMarks }
 
@@ -128,78 +143,91 @@ module _ (q : Renderer) (d : DashStyle) (f : Place → Choice) where
 
 -- ---- a line's cells one by one
 
--- the first i cells of a line of n have their numbers
-pub record Chosen (d : Drawing) (l : Line) (n i : ℕ) (numbers : List ℕ) : Type 0 where
+-- the first i of n cells of a line have their numbers, in an array of m places
+pub record Chosen (d : Drawing) (l : Line) (n m i : ℕ) (numbers : List ℕ) : Type 0 where
   pub within : i ≤ n
-  pub long : length numbers ≡ columnLimit
+  pub long : length numbers ≡ m
   pub front : take i numbers ≡ take i (numbersIn d l)
 
-module _ (d : Drawing) (l : Line) (n : ℕ) (long : length (d .cells) ≡ columnLimit) (e : n ≡ min (d .width) columnLimit) where
-  few : n ≤ columnLimit
+module _ (d : Drawing) (l : Line) (w n m : ℕ) (long : length (d .cells) ≡ columnLimit) (e : w ≡ min (d .width) columnLimit) (f : n ≡ min w m) where
+  few : w ≤ columnLimit
   few = omega arith
 
-  same-cells : take n (d .cells) ≡ take (d .width) (d .cells)
+  same-cells : take w (d .cells) ≡ take (d .width) (d .cells)
   same-cells = go (ltb (d .width) columnLimit) refl
     where
-      go : (b : Bool) → ltb (d .width) columnLimit ≡ b → take n (d .cells) ≡ take (d .width) (d .cells)
+      go : (b : Bool) → ltb (d .width) columnLimit ≡ b → take w (d .cells) ≡ take (d .width) (d .cells)
       go true h =
-          let k : n ≡ d .width = omega (arith, ltb-true (d .width) columnLimit h) in
-          ap (λ (m : ℕ). take m (d .cells)) k
+          let k : w ≡ d .width = omega (arith, ltb-true (d .width) columnLimit h) in
+          ap (λ (j : ℕ). take j (d .cells)) k
       go false h =
-          let k : n ≡ columnLimit = omega (arith, ltb-false (d .width) columnLimit h) in
-          ap (λ (m : ℕ). take m (d .cells)) k ∙ cells-fitting (d .cells) (d .width) long (ltb-false (d .width) columnLimit h)
+          let k : w ≡ columnLimit = omega (arith, ltb-false (d .width) columnLimit h) in
+          ap (λ (j : ℕ). take j (d .cells)) k ∙ cells-fitting (d .cells) (d .width) long (ltb-false (d .width) columnLimit h)
 
-  count-numbers : length (numbersIn d l) ≡ n
+  count-numbers : length (numbersIn d l) ≡ w
   count-numbers =
+      let k : length (take w (d .cells)) ≡ w = length-take w (d .cells) ∙ omega (arith, long) in
       length-numbers (d .renderer) (d .row .«dash_style») (choiceOf (d .renderer) (d .row) l) 0 (take (d .width) (d .cells))
       ∙ ap length (sym same-cells)
-      ∙ (length-take n (d .cells) ∙ omega (arith, long))
+      ∙ k
 
   -- one more
   module _ (i : ℕ) (h : i < n) (c : Cell) (g : c ≡ getD (d .cells) i blankCell) where
     abbrev made : LinkLine → Place
     made next = record { index = i; cell = c; next = next }
 
-    number-made : (next : LinkLine) → next ≡ nextLink (getD (d .cells) (nextIndex i) blankCell) i n
+    number-made : (next : LinkLine) → next ≡ nextLink (getD (d .cells) (nextIndex i) blankCell) i w
         → numberOf (d .renderer) (d .row .«dash_style») i (choiceOf (d .renderer) (d .row) l (made next)) ≡ getD (numbersIn d l) i 0
-    number-made next m =
-        let k : i < length (take (d .width) (d .cells)) = omega (arith, ap length same-cells, length-take n (d .cells), long) in
-        let p : made next ≡ getD (places 0 (take n (d .cells))) i noPlace = place-made (d .cells) n i long few h blankCell noPlace (made next) (rw (m, g)) in
+    number-made next z =
+        let j : i < w = omega arith in
+        let k : i < length (take (d .width) (d .cells)) = omega (arith, ap length same-cells, length-take w (d .cells), long) in
+        let p : made next ≡ getD (places 0 (take w (d .cells))) i noPlace = place-made (d .cells) w i long few j blankCell noPlace (made next) (rw (z, g)) in
         ap (λ (x : Place). numberOf (d .renderer) (d .row .«dash_style») i (choiceOf (d .renderer) (d .row) l x))
         (p ∙ ap (λ (cs : List Cell). getD (places 0 cs) i noPlace) same-cells)
         ∙ sym (rw (zero-add i) at (number-at (d .renderer) (d .row .«dash_style») (choiceOf (d .renderer) (d .row) l) 0 i (take (d .width) (d .cells)) k))
 
-    choose-next : (numbers : List ℕ) (v : ℕ) → Chosen d l n i numbers → v ≡ getD (numbersIn d l) i 0 → Chosen d l n (i + 1) (set numbers i v)
-    choose-next numbers v w m =
-        let k : i < length numbers = omega (arith, w .long) in
+    choose-next : (numbers : List ℕ) (v : ℕ) → Chosen d l n m i numbers → v ≡ getD (numbersIn d l) i 0 → Chosen d l n m (i + 1) (set numbers i v)
+    choose-next numbers v s z =
+        let k : i < length numbers = omega (arith, s .long) in
         let j : i < length (numbersIn d l) = omega (arith, count-numbers) in
         record {
           within = omega arith;
-          long = length-set numbers i v ∙ w .long;
-          front = rw (add-one i) (take-suc-set numbers i v k ∙ rw (w .front, m, take-suc (numbersIn d l) i 0 j));
+          long = length-set numbers i v ∙ s .long;
+          front = rw (add-one i) (take-suc-set numbers i v k ∙ rw (s .front, z, take-suc (numbersIn d l) i 0 j));
         }
 
-    pub choose-link : (numbers : List ℕ) (v k : ℕ) (next : LinkLine) → Chosen d l n i numbers → isLink l ≡ true → k ≡ nextIndex i
-        → next ≡ nextLink (getD (d .cells) k blankCell) i n
+    pub choose-link : (numbers : List ℕ) (v k : ℕ) (next : LinkLine) → Chosen d l n m i numbers → isLink l ≡ true → k ≡ nextIndex i
+        → next ≡ nextLink (getD (d .cells) k blankCell) i w
         → v ≡ numberOf (d .renderer) (d .row .«dash_style») i (linkLineChoice (d .renderer) (d .row) l (made next))
-        → Chosen d l n (i + 1) (set numbers i v)
-    choose-link numbers v k next w link b m f =
-        choose-next numbers v w
-        (f ∙ ap (numberOf (d .renderer) (d .row .«dash_style») i) (link-same (d .renderer) (d .row) l (made next) link)
-        ∙ number-made next (m ∙ ap (λ (j : ℕ). nextLink (getD (d .cells) j blankCell) i n) b))
+        → Chosen d l n m (i + 1) (set numbers i v)
+    choose-link numbers v k next s link b z u =
+        choose-next numbers v s
+        (u ∙ ap (numberOf (d .renderer) (d .row .«dash_style») i) (link-same (d .renderer) (d .row) l (made next) link)
+        ∙ number-made next (z ∙ ap (λ (j : ℕ). nextLink (getD (d .cells) j blankCell) i w) b))
 
-    pub choose-plain : (numbers : List ℕ) (v : ℕ) (first others at : PlainNumbers) → Chosen d l n i numbers → isLink l ≡ false
+    pub choose-plain : (numbers : List ℕ) (v : ℕ) (first others at : PlainNumbers) → Chosen d l n m i numbers → isLink l ≡ false
         → Plain (d .renderer) (d .row .«dash_style») 0 first → Plain (d .renderer) (d .row .«dash_style») 1 others → at ≡ cond (ltb 0 i) others first
         → v ≡ plainNumber at (plainChoice (d .row) l c)
-        → Chosen d l n (i + 1) (set numbers i v)
-    choose-plain numbers v first others at w link x y b f =
+        → Chosen d l n m (i + 1) (set numbers i v)
+    choose-plain numbers v first others at s link x y b u =
         let p : Plain (d .renderer) (d .row .«dash_style») i at = rw b (plain-at (d .renderer) (d .row .«dash_style») i first others x y) in
-        let next : LinkLine = nextLink (getD (d .cells) (nextIndex i) blankCell) i n in
-        choose-next numbers v w
-        (f ∙ plain-same (d .renderer) (d .row .«dash_style») i at p (d .row) l (made next) link ∙ number-made next refl)
+        let next : LinkLine = nextLink (getD (d .cells) (nextIndex i) blankCell) i w in
+        choose-next numbers v s
+        (u ∙ plain-same (d .renderer) (d .row .«dash_style») i at p (d .row) l (made next) link ∙ number-made next refl)
 
   -- all of them
-  pub choose-all : (i : ℕ) (numbers : List ℕ) → Chosen d l n i numbers → n ≤ i → (n ≤ columnLimit) × (take n numbers ≡ numbersIn d l)
-  choose-all i numbers w h =
-      let k : i ≡ n = omega (arith, w .within) in
-      (few, ap (λ (m : ℕ). take m numbers) (sym k) ∙ w .front ∙ take-all i (numbersIn d l) (omega (arith, count-numbers)))
+  pub choose-all : (i : ℕ) (before numbers : List ℕ) → length before ≡ m → Chosen d l n m i numbers → n ≤ i → Chooses (numbersIn d l) before numbers n
+  choose-all i before numbers b s h =
+      let k : i ≡ n = omega (arith, s .within) in
+      let j : min n columnLimit ≡ n = omega arith in
+      record {
+        count = omega (arith, count-numbers, b, f);
+        chosen =
+            ap (λ (z : ℕ). take z numbers) j ∙ ap (λ (z : ℕ). take z numbers) (sym k) ∙ s .front ∙ ap (λ (z : ℕ). take z (numbersIn d l)) (k ∙ f ∙ ap₂ min (sym count-numbers) (sym b))
+            ∙ take-capped (length before) (numbersIn d l);
+        few = omega (arith, count-numbers);
+      }
+
+-- an array of cells has 64, by what the prover knows of an array that is a struct's field
+pub cells-long : (l : List Cell) → length (map (the-type .to) l) ≡ columnLimit → length l ≡ columnLimit
+cells-long l e = sym (length-map l (the-type .to)) ∙ e

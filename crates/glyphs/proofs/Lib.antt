@@ -1,3 +1,5 @@
 pub mod BoxLaws
+pub mod CellsLaws
 pub mod ChoiceLaws
 pub mod PlaceLaws
+pub mod TableLaws

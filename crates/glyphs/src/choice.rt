@@ -223,14 +223,15 @@ pub fn choose_cells(numbers: &mut [u8], drawing: Drawing, line: Line) -> usize
     let renderer = drawing.renderer;
     let row = drawing.row;
     let dash_style = row.dash_style;
-    let count = lesser(lesser(drawing.width, COLUMN_LIMIT), numbers.len());
+    let width = lesser(drawing.width, COLUMN_LIMIT);
+    let count = lesser(width, numbers.len());
     let mut i: usize = 0;
     if is_link(line) {
         while i < count {
             let cell = drawing.cells[i];
             let k = next_index(i);
             let after = drawing.cells[k];
-            let next = next_link(after, i, count);
+            let next = next_link(after, i, width);
             let place = Place {
                 index: i,
                 cell,

@@ -1,9 +1,10 @@
 -- Chooses the glyphs of a line, a number for each cell.
-use borrow.Author.Needs.{needs}
 use Prim.Native.Nat.{_-_}
-use mathlib.Core.Path.{refl}
+use mathlib.Core.Path.{refl, sym, _∙_}
 use native.Mathlib.Omega.{arith}
-use Rattle.glyphs.proofs.ChoiceLaws.{Chosen, choose-link, choose-plain, choose-all}
+use lib.ListN.{length}
+use borrow.Author.Needs.{needs}
+use Rattle.glyphs.proofs.ChoiceLaws.{Chosen, choose-link, choose-plain, choose-all, cells-long}
 use Rattle.glyphs.proofs.choice.choose_cells.Statement.{statement}
 use Rattle.glyphs.proofs.choice.choose_cells.Tie as tie
 use Rattle.glyphs.proofs.choice.choose_cells.Reads as reads
@@ -18,25 +19,28 @@ use Rattle.glyphs.proofs.choice.plain_numbers.Reads as plain-numbers-re
 use Rattle.slices.proofs.lesser.Reads as lesser-reads
 
 abbrev Inv-loop : tie.InvT-loop
-Inv-loop numbers₀ line drawing renderer row count i₀ numbers i = Chosen drawing line count i numbers
+Inv-loop numbers₀ line drawing renderer row width count i₀ numbers i = Chosen drawing line count (length numbers₀) i numbers
 
 abbrev μ-loop : tie.MeasureT-loop
-μ-loop numbers₀ line drawing renderer row count i₀ numbers i = count - i
+μ-loop numbers₀ line drawing renderer row width count i₀ numbers i = count - i
 
 abbrev Inv-loop2 : tie.InvT-loop2
-Inv-loop2 numbers₀ line drawing row count i₀ first others numbers i = Chosen drawing line count i numbers
+Inv-loop2 numbers₀ line drawing row width count i₀ first others numbers i = Chosen drawing line count (length numbers₀) i numbers
 
 abbrev μ-loop2 : tie.MeasureT-loop2
-μ-loop2 numbers₀ line drawing row count i₀ first others numbers i = count - i
+μ-loop2 numbers₀ line drawing row width count i₀ first others numbers i = count - i
 
 lesser-requires : tie.Need-lesser-requires Inv-loop μ-loop Inv-loop2 μ-loop2
 lesser-requires c κs = search needs
+
+lesser-requires-2 : tie.Need-lesser-requires-2 Inv-loop μ-loop Inv-loop2 μ-loop2
+lesser-requires-2 c κs = search needs
 
 is-link-requires : tie.Need-is-link-requires Inv-loop μ-loop Inv-loop2 μ-loop2
 is-link-requires c κs = search needs
 
 loop-holds : tie.Need-loop-holds Inv-loop μ-loop Inv-loop2 μ-loop2
-loop-holds c = record { within = omega arith; long = search needs; front = refl }
+loop-holds c = record { within = omega arith; long = refl; front = refl }
 
 mul-cell : tie.Need-mul-cell Inv-loop μ-loop Inv-loop2 μ-loop2
 mul-cell c = search needs
@@ -59,8 +63,8 @@ next-link-requires c κs = search needs
 link-number-requires : tie.Need-link-number-requires Inv-loop μ-loop Inv-loop2 μ-loop2
 link-number-requires c κs = search needs
 
-element-write-numbers : tie.Need-element-write-numbers Inv-loop μ-loop Inv-loop2 μ-loop2
-element-write-numbers c = search needs
+slice-write-numbers : tie.Need-slice-write-numbers Inv-loop μ-loop Inv-loop2 μ-loop2
+slice-write-numbers c = search needs
 
 add-i : tie.Need-add-i Inv-loop μ-loop Inv-loop2 μ-loop2
 add-i c = search needs
@@ -73,16 +77,21 @@ loop-again c =
     let at-cell = c .before .before .before .before in
     let l = at-cell .before .before .loop in
     let at-if = at-cell .before .before .before in
-    let start = at-if .before .before .before .before in
+    let at-count = at-if .before .before in
+    let start = at-count .before .before .before .before in
     let a = start .args in
-    choose-link (a .t2) (a .line) _ ? (at-if .before .before .lesser .ensures) (l .i) ? _ refl _ _ _ _ (l .inv) ? (c .before .before .before .next-index .ensures) (c .before .next-link .ensures) (c .link-number .ensures)
+    choose-link (a .t2) (a .line) _ _ _ (cells-long (a .t2 .cells) (start .good .1 .0 .1 .1 .1 .1 .1 .0 .1 .0 .1)) (at-count .before .lesser .ensures) (at-count .lesser2 .ensures) (l .i) (at-cell .before .loop-test .taken) _ refl _ _ _ _ (l .inv) (sym (at-if .before .is-link .ensures) ∙ at-if .if1 .taken) (c .before .before .before .next-index .ensures) (c .before .next-link .ensures) (c .link-number .ensures)
+
+same-length : tie.Need-same-length Inv-loop μ-loop Inv-loop2 μ-loop2
+same-length c = search needs
 
 returns : tie.Need-returns Inv-loop μ-loop Inv-loop2 μ-loop2
 returns c =
     let at-if = c .before .before in
-    let start = at-if .before .before .before .before in
+    let at-count = at-if .before .before in
+    let start = at-count .before .before .before .before in
     let a = start .args in
-    choose-all (a .t2) (a .line) _ ? (at-if .before .before .lesser .ensures) _ _ (c .before .loop .inv) ?
+    choose-all (a .t2) (a .line) _ _ _ (cells-long (a .t2 .cells) (start .good .1 .0 .1 .1 .1 .1 .1 .0 .1 .0 .1)) (at-count .before .lesser .ensures) (at-count .lesser2 .ensures) _ _ _ refl (c .before .loop .inv) (c .loop-test .left)
 
 plain-numbers-requires : tie.Need-plain-numbers-requires Inv-loop μ-loop Inv-loop2 μ-loop2
 plain-numbers-requires c κs = search needs
@@ -91,7 +100,7 @@ plain-numbers-requires-2 : tie.Need-plain-numbers-requires-2 Inv-loop μ-loop In
 plain-numbers-requires-2 c κs = search needs
 
 loop2-holds : tie.Need-loop2-holds Inv-loop μ-loop Inv-loop2 μ-loop2
-loop2-holds c = record { within = omega arith; long = search needs; front = refl }
+loop2-holds c = record { within = omega arith; long = refl; front = refl }
 
 mul-cell-2 : tie.Need-mul-cell-2 Inv-loop μ-loop Inv-loop2 μ-loop2
 mul-cell-2 c = search needs
@@ -105,8 +114,8 @@ numbers-at-requires c κs = search needs
 plain-number-requires : tie.Need-plain-number-requires Inv-loop μ-loop Inv-loop2 μ-loop2
 plain-number-requires c κs = search needs
 
-element-write-numbers-2 : tie.Need-element-write-numbers-2 Inv-loop μ-loop Inv-loop2 μ-loop2
-element-write-numbers-2 c = search needs
+slice-write-numbers-2 : tie.Need-slice-write-numbers-2 Inv-loop μ-loop Inv-loop2 μ-loop2
+slice-write-numbers-2 c = search needs
 
 add-i-2 : tie.Need-add-i-2 Inv-loop μ-loop Inv-loop2 μ-loop2
 add-i-2 c = search needs
@@ -117,20 +126,25 @@ loop2-less c = search needs
 loop2-again : tie.Need-loop2-again Inv-loop μ-loop Inv-loop2 μ-loop2
 loop2-again c =
     let at-numbers = c .before in
-    let l = at-numbers .before .before .before .loop2 in
-    let at-plain = at-numbers .before .before .before .before in
+    let at-loop = at-numbers .before .before in
+    let l = at-loop .before .loop2 in
+    let at-plain = at-loop .before .before in
     let at-if = at-plain .before .before in
-    let start = at-if .before .before .before .before in
+    let at-count = at-if .before .before in
+    let start = at-count .before .before .before .before in
     let a = start .args in
-    choose-plain (a .t2) (a .line) _ ? (at-if .before .before .lesser .ensures) (l .i) ? _ refl _ _ _ _ _ (l .inv) ? (at-plain .before .plain-numbers .ensures) (at-plain .plain-numbers2 .ensures) (at-numbers .numbers-at .ensures) (c .plain-number .ensures)
+    choose-plain (a .t2) (a .line) _ _ _ (cells-long (a .t2 .cells) (start .good .1 .0 .1 .1 .1 .1 .1 .0 .1 .0 .1)) (at-count .before .lesser .ensures) (at-count .lesser2 .ensures) (l .i) (at-loop .loop2-test .taken) _ refl _ _ _ _ _ (l .inv) (sym (at-if .before .is-link .ensures) ∙ at-if .if1 .left) (at-plain .before .plain-numbers .ensures) (at-plain .plain-numbers2 .ensures) (at-numbers .numbers-at .ensures) (c .plain-number .ensures)
+
+same-length-2 : tie.Need-same-length-2 Inv-loop μ-loop Inv-loop2 μ-loop2
+same-length-2 c = search needs
 
 returns-2 : tie.Need-returns-2 Inv-loop μ-loop Inv-loop2 μ-loop2
 returns-2 c =
-    let at-plain = c .before .before in
-    let at-if = at-plain .before .before in
-    let start = at-if .before .before .before .before in
+    let at-if = c .before .before .before .before in
+    let at-count = at-if .before .before in
+    let start = at-count .before .before .before .before in
     let a = start .args in
-    choose-all (a .t2) (a .line) _ ? (at-if .before .before .lesser .ensures) _ _ (c .before .loop2 .inv) ?
+    choose-all (a .t2) (a .line) _ _ _ (cells-long (a .t2 .cells) (start .good .1 .0 .1 .1 .1 .1 .1 .0 .1 .0 .1)) (at-count .before .lesser .ensures) (at-count .lesser2 .ensures) _ _ _ refl (c .before .loop2 .inv) (c .loop2-test .left)
 
 pub choose-cells-spec : {M : Type 1} → statement M
 choose-cells-spec =
@@ -141,6 +155,7 @@ choose-cells-spec =
     Inv-loop2
     μ-loop2
     lesser-requires
+    lesser-requires-2
     is-link-requires
     loop-holds
     mul-cell
@@ -150,10 +165,11 @@ choose-cells-spec =
     element-copy-out-after
     next-link-requires
     link-number-requires
-    element-write-numbers
+    slice-write-numbers
     add-i
     loop-less
     loop-again
+    same-length
     returns
     plain-numbers-requires
     plain-numbers-requires-2
@@ -162,8 +178,9 @@ choose-cells-spec =
     element-copy-out-cell-2
     numbers-at-requires
     plain-number-requires
-    element-write-numbers-2
+    slice-write-numbers-2
     add-i-2
     loop2-less
     loop2-again
+    same-length-2
     returns-2)

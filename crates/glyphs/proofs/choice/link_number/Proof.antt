@@ -1,5 +1,11 @@
 -- The number by which a cell of a link line is drawn.
-use borrow.Author.Needs.{needs}
+use mathlib.Core.Path.{_∙_, ap}
+use Prim.Native.Nat.{_<_}
+use native.Mathlib.Omega.{arith}
+use mir.Syntax.{w8}
+use Rattle.glyphs.specs.Tables.{numberOf}
+use Rattle.glyphs.proofs.TableLaws.{number-small}
+use borrow.Author.Needs.{needs, fits-under}
 use Rattle.glyphs.proofs.choice.link_number.Statement.{statement}
 use Rattle.glyphs.proofs.choice.link_number.Tie as tie
 use Rattle.glyphs.proofs.choice.link_number.Reads as reads
@@ -14,10 +20,16 @@ number-of-requires : tie.Need-number-of-requires
 number-of-requires c κs = search needs
 
 cast-result : tie.Need-cast-result
-cast-result c = ?
+cast-result c =
+    let a = c .before .before .args in
+    let e = c .number-of .ensures ∙ ap (numberOf (a .renderer) (a .row .«dash_style») (a .place .index)) (c .before .link-line-choice .ensures) in
+    let h : c .number-of .result < 256 = omega (arith, e, number-small (a .renderer) (a .row) (a .line) (a .place)) in
+    fits-under w8 (c .number-of .result) 256 h tt
 
 returns : tie.Need-returns
-returns c = rw (← c .before .link-line-choice .ensures) (c .number-of .ensures)
+returns c =
+    let a = c .before .before .args in
+    c .number-of .ensures ∙ ap (numberOf (a .renderer) (a .row .«dash_style») (a .place .index)) (c .before .link-line-choice .ensures)
 
 pub link-number-spec : {M : Type 1} → statement M
 link-number-spec =

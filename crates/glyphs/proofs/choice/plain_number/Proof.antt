@@ -89,12 +89,12 @@ returns-5 c = rw (c .enum-told5 .given .1)
 returns-6 : tie.Need-returns-6
 returns-6 c =
     let a = c .before .before .before .args in
-    rw (c .before .enum-told6 .given .1) (c .term-number .ensures ∙ plain-cond (a .t1) (a .t4 .term) Solid (padChoice (a .t4 .ancestry)))
+    rw (c .before .enum-told6 .given .1) (c .term-number .ensures ∙ plain-cond (a .numbers) (a .cell .term) Solid (padChoice (a .cell .ancestry)))
 
 returns-7 : tie.Need-returns-7
 returns-7 c =
     let a = c .before .before .before .args in
-    rw (c .before .enum-told7 .given .1) (c .term-number2 .ensures ∙ plain-cond (a .t1) (a .t4 .term) End (padChoice (a .t4 .ancestry)))
+    rw (c .before .enum-told7 .given .1) (c .term-number2 .ensures ∙ plain-cond (a .numbers) (a .cell .term) End (padChoice (a .cell .ancestry)))
 
 returns-8 : tie.Need-returns-8
 returns-8 c = rw (c .before .enum-told8 .given .1) (c .pad-number3 .ensures)

@@ -6,19 +6,19 @@ use Rattle.glyphs.proofs.table.blanks_behind.Lts as lts
 use Rattle.glyphs.proofs.table.glyph_end.Reads as glyph-end-reads
 use Rattle.glyphs.proofs.table.glyph_length.Reads as glyph-length-reads
 
--- src/table.rt:148:5
+-- src/table.rt:165:5
 glyph-length-requires : tie.Need-glyph-length-requires
 glyph-length-requires c κs = search needs
 
--- src/table.rt:148:30
+-- src/table.rt:165:30
 glyph-end-requires : tie.Need-glyph-end-requires
 glyph-end-requires c κs = search needs
 
--- src/table.rt:148:5
+-- src/table.rt:165:5
 sub-result : tie.Need-sub-result
 sub-result c = ?
 
--- src/table.rt:145:1
+-- src/table.rt:162:1
 returns : tie.Need-returns
 returns c = search needs
 

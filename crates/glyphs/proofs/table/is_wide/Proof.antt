@@ -3,27 +3,22 @@ use Rattle.glyphs.proofs.table.is_wide.Statement.{statement}
 use Rattle.glyphs.proofs.table.is_wide.Tie as tie
 use Rattle.glyphs.proofs.table.is_wide.Reads as reads
 use Rattle.glyphs.proofs.table.is_wide.Lts as lts
-use Rattle.slices.proofs.lesser.Reads as lesser-reads
 
--- src/table.rt:180:9
+-- src/table.rt:191:9
 returns : tie.Need-returns
 returns c = ?
 
--- src/table.rt:183:9
+-- src/table.rt:194:9
 returns-2 : tie.Need-returns-2
 returns-2 c = ?
 
--- src/table.rt:185:9
-lesser-requires : tie.Need-lesser-requires
-lesser-requires c κs = search needs
-
--- src/table.rt:185:5
+-- src/table.rt:196:5
 mul-result : tie.Need-mul-result
 mul-result c = search needs
 
--- src/table.rt:176:1
+-- src/table.rt:186:1
 returns-3 : tie.Need-returns-3
 returns-3 c = ?
 
 pub is-wide-spec : {M : Type 1} → statement M
-is-wide-spec = tie.close (tie.spec returns returns-2 lesser-requires mul-result returns-3)
+is-wide-spec = tie.close (tie.spec returns returns-2 mul-result returns-3)
