@@ -1,8 +1,5 @@
 -- The numbers of a cell that is given no link.
-use mathlib.Core.Path.{_≡_, refl}
-use mathlib.Core.Bool.{true, false}
-use Prim.Native.Nat.{_≤_, _*_}
-use lib.Dec.{ltb}
+use mathlib.Core.Path.{refl}
 use native.Mathlib.Omega.{arith}
 use borrow.Author.Tests.{lt-ltb, le-ltb}
 use Rattle.glyphs.specs.Ascii.{ancestor}

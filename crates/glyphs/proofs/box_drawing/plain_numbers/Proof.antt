@@ -2,7 +2,7 @@
 use mathlib.Core.Path.{refl}
 use native.Mathlib.Omega.{arith}
 use Rattle.glyphs.specs.Tables.{numberOf}
-use Rattle.glyphs.proofs.TableLaws.{dashed-small}
+use Rattle.glyphs.proofs.TableLaws.{ancestor-small}
 use borrow.Author.Needs.{needs}
 use Rattle.glyphs.proofs.box_drawing.plain_numbers.Statement.{statement}
 use Rattle.glyphs.proofs.box_drawing.plain_numbers.Tie as tie
@@ -17,7 +17,7 @@ dashed-requires : tie.Need-dashed-requires
 dashed-requires c κs = search needs
 
 cast-t5 : tie.Need-cast-t5
-cast-t5 c = omega (arith, dashed-small (c .before .args .dash-style) (c .dashed .ensures))
+cast-t5 c = omega (arith, ancestor-small (c .before .args .dash-style), c .dashed .ensures)
 
 cast-t6 : tie.Need-cast-t6
 cast-t6 c = search needs
