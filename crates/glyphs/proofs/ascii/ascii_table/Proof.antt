@@ -1,24 +1,22 @@
+-- The table of the ASCII renderer: its glyphs, counted out, are the ones that it is to hold.
+use mathlib.Core.Path.{refl}
+use Rattle.glyphs.specs.Tables.{asciiTable}
+use Rattle.glyphs.proofs.TableLaws.{holds}
 use borrow.Author.Needs.{needs}
 use Rattle.glyphs.proofs.ascii.ascii_table.Statement.{statement}
 use Rattle.glyphs.proofs.ascii.ascii_table.Tie as tie
-use Rattle.glyphs.proofs.ascii.ascii_table.Reads as reads
-use Rattle.glyphs.proofs.ascii.ascii_table.Lts as lts
 
--- src/ascii.rt:215:11
 mul-table : tie.Need-mul-table
 mul-table c = search needs
 
--- src/ascii.rt:215:11
 add-table : tie.Need-add-table
 add-table c = search needs
 
--- src/ascii.rt:215:5
 array-write-table : tie.Need-array-write-table
 array-write-table c = search needs
 
--- src/ascii.rt:211:1
 returns : tie.Need-returns
-returns c = ?
+returns c = holds _ 33 (asciiTable (c .args .mark)) refl refl
 
 pub ascii-table-spec : {M : Type 1} → statement M
 ascii-table-spec = tie.close (tie.spec mul-table add-table array-write-table returns)

@@ -1,28 +1,29 @@
+-- The number of two characters in the table.
+use Prim.Native.Nat.{_≤_}
+use native.Mathlib.Omega.{arith}
+use Rattle.glyphs.specs.Tables.{uprights, connections}
+use Rattle.glyphs.proofs.TableLaws.{place-short}
 use borrow.Author.Needs.{needs}
 use Rattle.glyphs.proofs.ascii.pair_number.Statement.{statement}
 use Rattle.glyphs.proofs.ascii.pair_number.Tie as tie
-use Rattle.glyphs.proofs.ascii.pair_number.Reads as reads
-use Rattle.glyphs.proofs.ascii.pair_number.Lts as lts
-use Rattle.glyphs.proofs.ascii.connection_number.Reads as connection-number-reads
-use Rattle.glyphs.proofs.ascii.upright_number.Reads as upright-number-reads
 
--- src/ascii.rt:168:9
 upright-number-requires : tie.Need-upright-number-requires
 upright-number-requires c κs = search needs
 
--- src/ascii.rt:168:5
 mul-result : tie.Need-mul-result
-mul-result c = ?
+mul-result c =
+    let u : c .upright-number .result ≤ 8 = place-short uprights (c .before .args .upright) (c .upright-number .ensures) in
+    omega arith
 
--- src/ascii.rt:168:35
 connection-number-requires : tie.Need-connection-number-requires
 connection-number-requires c κs = search needs
 
--- src/ascii.rt:168:5
 add-result : tie.Need-add-result
-add-result c = ?
+add-result c =
+    let u : c .before .upright-number .result ≤ 8 = place-short uprights (c .before .before .args .upright) (c .before .upright-number .ensures) in
+    let v : c .connection-number .result ≤ 4 = place-short connections (c .before .before .args .connection) (c .connection-number .ensures) in
+    omega arith
 
--- src/ascii.rt:165:1
 returns : tie.Need-returns
 returns c = search needs
 

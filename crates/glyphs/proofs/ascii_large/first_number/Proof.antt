@@ -1,32 +1,35 @@
+-- The number of two characters of the first cell.
+use Prim.Native.Nat.{_≤_}
+use native.Mathlib.Omega.{arith}
+use Rattle.glyphs.specs.Tables.{centers, rights}
+use Rattle.glyphs.proofs.TableLaws.{place-short}
 use borrow.Author.Needs.{needs}
 use Rattle.glyphs.proofs.ascii_large.first_number.Statement.{statement}
 use Rattle.glyphs.proofs.ascii_large.first_number.Tie as tie
-use Rattle.glyphs.proofs.ascii_large.first_number.Reads as reads
-use Rattle.glyphs.proofs.ascii_large.first_number.Lts as lts
-use Rattle.glyphs.proofs.ascii_large.center_number.Reads as center-number-reads
-use Rattle.glyphs.proofs.ascii_large.right_number.Reads as right-number-reads
 
--- src/ascii_large.rt:419:18
 center-number-requires : tie.Need-center-number-requires
 center-number-requires c κs = search needs
 
--- src/ascii_large.rt:419:14
 mul-result : tie.Need-mul-result
-mul-result c = ?
+mul-result c =
+    let u : c .center-number .result ≤ 6 = place-short centers (c .before .args .center) (c .center-number .ensures) in
+    omega arith
 
--- src/ascii_large.rt:419:42
 right-number-requires : tie.Need-right-number-requires
 right-number-requires c κs = search needs
 
--- src/ascii_large.rt:419:14
 add-result : tie.Need-add-result
-add-result c = ?
+add-result c =
+    let u : c .before .center-number .result ≤ 6 = place-short centers (c .before .before .args .center) (c .before .center-number .ensures) in
+    let v : c .right-number .result ≤ 5 = place-short rights (c .before .before .args .right) (c .right-number .ensures) in
+    omega arith
 
--- src/ascii_large.rt:419:5
 add-result-2 : tie.Need-add-result-2
-add-result-2 c = ?
+add-result-2 c =
+    let u : c .before .center-number .result ≤ 6 = place-short centers (c .before .before .args .center) (c .before .center-number .ensures) in
+    let v : c .right-number .result ≤ 5 = place-short rights (c .before .before .args .right) (c .right-number .ensures) in
+    omega arith
 
--- src/ascii_large.rt:416:1
 returns : tie.Need-returns
 returns c = search needs
 

@@ -1,25 +1,35 @@
+-- The numbers of a cell that is given no link.
+use mathlib.Core.Path.{refl}
+use native.Mathlib.Omega.{arith}
+use borrow.Author.Tests.{lt-ltb, le-ltb}
+use Rattle.glyphs.specs.Ascii.{ancestor}
+use Rattle.glyphs.specs.Tables.{centers, numberOf}
+use Rattle.glyphs.proofs.TableLaws.{place-short, dashed-apart, dashed-first}
 use borrow.Author.Needs.{needs}
 use Rattle.glyphs.proofs.ascii_large.plain_numbers.Statement.{statement}
 use Rattle.glyphs.proofs.ascii_large.plain_numbers.Tie as tie
-use Rattle.glyphs.proofs.ascii_large.plain_numbers.Reads as reads
-use Rattle.glyphs.proofs.ascii_large.plain_numbers.Lts as lts
-use Rattle.glyphs.proofs.ascii_large.dashed_number.Reads as dashed-number-reads
 
--- src/ascii_large.rt:477:9
 dashed-number-requires : tie.Need-dashed-number-requires
 dashed-number-requires c κs = search needs
 
--- src/ascii_large.rt:490:21
 add-t6 : tie.Need-add-t6
-add-t6 c = ?
+add-t6 c =
+    let d = c .before .dashed-number in
+    omega (arith, d .ensures, place-short centers (ancestor (c .before .before .args .dash-style)) refl)
 
--- src/ascii_large.rt:474:1
 returns : tie.Need-returns
-returns c = ?
+unfolding numberOf
+returns c =
+    let d = dashed-apart (c .before .before .args .dash-style) (c .before .dashed-number .ensures) in
+    let e = lt-ltb 0 (c .before .before .args .index) (c .if1 .taken) in
+    record { space = rw e; solid = rw e; dashed = rw e d; mark = rw e; end = rw e }
 
--- src/ascii_large.rt:474:1
 returns-2 : tie.Need-returns-2
-returns-2 c = ?
+unfolding numberOf
+returns-2 c =
+    let d = dashed-first (c .before .before .args .dash-style) (c .before .dashed-number .ensures) in
+    let e = le-ltb 0 (c .before .before .args .index) (c .if1 .left) in
+    record { space = rw e; solid = rw e; dashed = rw e d; mark = rw e; end = rw e }
 
 pub plain-numbers-spec : {M : Type 1} → statement M
 plain-numbers-spec = tie.close (tie.spec dashed-number-requires add-t6 returns returns-2)

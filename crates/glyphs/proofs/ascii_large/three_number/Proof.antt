@@ -1,41 +1,44 @@
+-- The number of three characters.
+use Prim.Native.Nat.{_≤_}
+use native.Mathlib.Omega.{arith}
+use Rattle.glyphs.specs.Tables.{lefts, centers, rights}
+use Rattle.glyphs.proofs.TableLaws.{place-short}
 use borrow.Author.Needs.{needs}
 use Rattle.glyphs.proofs.ascii_large.three_number.Statement.{statement}
 use Rattle.glyphs.proofs.ascii_large.three_number.Tie as tie
-use Rattle.glyphs.proofs.ascii_large.three_number.Reads as reads
-use Rattle.glyphs.proofs.ascii_large.three_number.Lts as lts
-use Rattle.glyphs.proofs.ascii_large.center_number.Reads as center-number-reads
-use Rattle.glyphs.proofs.ascii_large.left_number.Reads as left-number-reads
-use Rattle.glyphs.proofs.ascii_large.right_number.Reads as right-number-reads
 
--- src/ascii_large.rt:426:10
 left-number-requires : tie.Need-left-number-requires
 left-number-requires c κs = search needs
 
--- src/ascii_large.rt:426:5
 mul-result : tie.Need-mul-result
-mul-result c = ?
+mul-result c =
+    let u : c .left-number .result ≤ 5 = place-short lefts (c .before .args .left) (c .left-number .ensures) in
+    omega arith
 
--- src/ascii_large.rt:426:35
 center-number-requires : tie.Need-center-number-requires
 center-number-requires c κs = search needs
 
--- src/ascii_large.rt:426:31
 mul-result-2 : tie.Need-mul-result-2
-mul-result-2 c = ?
+mul-result-2 c =
+    let u : c .center-number .result ≤ 6 = place-short centers (c .before .before .args .center) (c .center-number .ensures) in
+    omega arith
 
--- src/ascii_large.rt:426:59
 right-number-requires : tie.Need-right-number-requires
 right-number-requires c κs = search needs
 
--- src/ascii_large.rt:426:31
 add-result : tie.Need-add-result
-add-result c = ?
+add-result c =
+    let u : c .before .center-number .result ≤ 6 = place-short centers (c .before .before .before .args .center) (c .before .center-number .ensures) in
+    let v : c .right-number .result ≤ 5 = place-short rights (c .before .before .before .args .right) (c .right-number .ensures) in
+    omega arith
 
--- src/ascii_large.rt:426:5
 add-result-2 : tie.Need-add-result-2
-add-result-2 c = ?
+add-result-2 c =
+    let u : c .before .before .left-number .result ≤ 5 = place-short lefts (c .before .before .before .args .left) (c .before .before .left-number .ensures) in
+    let v : c .before .center-number .result ≤ 6 = place-short centers (c .before .before .before .args .center) (c .before .center-number .ensures) in
+    let w : c .right-number .result ≤ 5 = place-short rights (c .before .before .before .args .right) (c .right-number .ensures) in
+    omega arith
 
--- src/ascii_large.rt:423:1
 returns : tie.Need-returns
 returns c = search needs
 

@@ -1,4 +1,8 @@
+-- How many blanks stand at the end of a glyph.
+use native.Mathlib.Omega.{arith}
 use borrow.Author.Needs.{needs}
+use Rattle.message.proofs.MessageLaws.{trim-length}
+use Rattle.glyphs.specs.Tables.{glyphAt}
 use Rattle.glyphs.proofs.table.blanks_behind.Statement.{statement}
 use Rattle.glyphs.proofs.table.blanks_behind.Tie as tie
 use Rattle.glyphs.proofs.table.blanks_behind.Reads as reads
@@ -6,21 +10,19 @@ use Rattle.glyphs.proofs.table.blanks_behind.Lts as lts
 use Rattle.glyphs.proofs.table.glyph_end.Reads as glyph-end-reads
 use Rattle.glyphs.proofs.table.glyph_length.Reads as glyph-length-reads
 
--- src/table.rt:165:5
 glyph-length-requires : tie.Need-glyph-length-requires
 glyph-length-requires c κs = search needs
 
--- src/table.rt:165:30
 glyph-end-requires : tie.Need-glyph-end-requires
 glyph-end-requires c κs = search needs
 
--- src/table.rt:165:5
 sub-result : tie.Need-sub-result
-sub-result c = ?
+sub-result c =
+    let a = c .before .before .before .args in
+    omega (arith, c .glyph-end .ensures, c .before .glyph-length .ensures, trim-length (glyphAt (a .table .now) (a .n)))
 
--- src/table.rt:162:1
 returns : tie.Need-returns
-returns c = search needs
+returns c = omega (arith, c .glyph-end .ensures, c .before .glyph-length .ensures)
 
 pub blanks-behind-spec : {M : Type 1} → statement M
 blanks-behind-spec =

@@ -1,3 +1,13 @@
+-- How many blanks stand at the end of the cells, which the finished line lacks.
+use mathlib.Core.Path.{refl}
+use Prim.Native.Nat.{_-_, min}
+use native.Mathlib.Omega.{arith}
+use lib.ListN.{getD, length-take}
+use mir.Syntax.{w64}
+use borrow.Author.Needs.{needs, fits-under}
+use Rattle.column.specs.Columns.{columnLimit}
+use Rattle.glyphs.proofs.CellsLaws.{Tail, tail-start, tail-stop, tail-next, tail-end, all-short}
+use Rattle.glyphs.proofs.TableLaws.{glyph-short}
 use Rattle.glyphs.proofs.table.trailing_blanks.Statement.{statement}
 use Rattle.glyphs.proofs.table.trailing_blanks.Tie as tie
 use Rattle.glyphs.proofs.table.trailing_blanks.Reads as reads
@@ -7,54 +17,68 @@ use Rattle.glyphs.proofs.table.cell_count.Reads as cell-count-reads
 use Rattle.glyphs.proofs.table.glyph_end.Reads as glyph-end-reads
 
 abbrev Inv-loop : tie.InvT-loop
-Inv-loop table numbers width n₀ blanks₀ n blanks = ?
+Inv-loop table numbers width n₀ blanks₀ n blanks = Tail table numbers width n blanks
 
 abbrev μ-loop : tie.MeasureT-loop
-μ-loop table numbers width n₀ blanks₀ n blanks = ?
+μ-loop table numbers width n₀ blanks₀ n blanks = n
 
--- src/table.rt:172:9
 cell-count-requires : tie.Need-cell-count-requires Inv-loop μ-loop
-cell-count-requires c κs = ?
+cell-count-requires c κs = search needs
 
--- src/table.rt:174:5
 loop-holds : tie.Need-loop-holds Inv-loop μ-loop
-loop-holds c = ?
+loop-holds c =
+    let at-count = c in
+    let a = at-count .before .before .before .args in
+    tail-start (a .table .now) (a .numbers .now) (a .width) _ (c .cell-count .ensures .0)
 
--- src/table.rt:175:9
 sub-n : tie.Need-sub-n Inv-loop μ-loop
-sub-n c = ?
+sub-n c = search needs
 
--- src/table.rt:176:22
 shared-slice-read-number : tie.Need-shared-slice-read-number Inv-loop μ-loop
-shared-slice-read-number c = ?
+shared-slice-read-number c =
+    let l = c .before .before .loop in
+    let at-count = c .before .before .before in
+    let a = at-count .before .before .before .args in
+    omega (arith, c .before .loop-test .taken, l .inv .within, length-take (min (a .width) columnLimit) (a .numbers .now))
 
--- src/table.rt:177:19
 blanks-behind-requires : tie.Need-blanks-behind-requires Inv-loop μ-loop
-blanks-behind-requires c κs = ?
+blanks-behind-requires c κs = search needs
 
--- src/table.rt:177:9
 add-blanks : tie.Need-add-blanks Inv-loop μ-loop
-add-blanks c = ?
+add-blanks c =
+    let l = c .before .before .before .loop in
+    let at-count = c .before .before .before .before in
+    let a = at-count .before .before .before .args in
+    fits-under w64 _ 10000 (omega (arith, l .inv .sum, c .blanks-behind .ensures, glyph-short (a .table .now) (getD (a .numbers .now) (l .n - 1) 0), all-short (a .table .now) (a .numbers .now) (a .width))) tt
 
--- src/table.rt:178:12
 glyph-end-requires : tie.Need-glyph-end-requires Inv-loop μ-loop
-glyph-end-requires c κs = ?
+glyph-end-requires c κs = search needs
 
--- src/table.rt:179:13
 returns : tie.Need-returns Inv-loop μ-loop
-returns c = ?
+returns c =
+    let l = c .before .before .before .before .before .loop in
+    let at-count = c .before .before .before .before .before .before in
+    let a = at-count .before .before .before .args in
+    let e = c .before .glyph-end .ensures in
+    tail-stop (a .table .now) (a .numbers .now) (a .width) (l .n) (l .blanks) (getD (a .numbers .now) (l .n - 1) 0) _ (l .inv) (c .before .before .before .before .loop-test .taken) refl (c .before .before .blanks-behind .ensures) (omega (arith, e, c .if1 .taken))
 
--- src/table.rt:174:5
 loop-less : tie.Need-loop-less Inv-loop μ-loop
-loop-less c = ?
+loop-less c = search needs
 
--- src/table.rt:174:5
 loop-again : tie.Need-loop-again Inv-loop μ-loop
-loop-again c = ?
+loop-again c =
+    let l = c .before .before .before .before .before .loop in
+    let at-count = c .before .before .before .before .before .before in
+    let a = at-count .before .before .before .args in
+    let e = c .before .glyph-end .ensures in
+    tail-next (a .table .now) (a .numbers .now) (a .width) (l .n) (l .blanks) (getD (a .numbers .now) (l .n - 1) 0) _ (l .inv) (c .before .before .before .before .loop-test .taken) refl (c .before .before .blanks-behind .ensures) (omega (arith, e, c .if1 .left))
 
--- src/table.rt:169:1
 returns-2 : tie.Need-returns-2 Inv-loop μ-loop
-returns-2 c = ?
+returns-2 c =
+    let l = c .before .loop in
+    let at-count = c .before .before in
+    let a = at-count .before .before .before .args in
+    tail-end (a .table .now) (a .numbers .now) (a .width) (l .n) (l .blanks) (l .inv) (omega (arith, c .loop-test .left))
 
 pub trailing-blanks-spec : {M : Type 1} → statement M
 trailing-blanks-spec =

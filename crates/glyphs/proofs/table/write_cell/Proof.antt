@@ -1,4 +1,10 @@
+-- Writes a glyph where `left` bytes of the line are still to be written.
+use native.Mathlib.Omega.{arith}
+use lib.ListN.{length-take}
 use borrow.Author.Needs.{needs}
+use Rattle.glyphs.specs.Tables.{glyphAt}
+use Rattle.glyphs.proofs.CellsLaws.{within-more, within-own}
+use Rattle.glyphs.proofs.TableLaws.{glyph-short}
 use Rattle.glyphs.proofs.table.write_cell.Statement.{statement}
 use Rattle.glyphs.proofs.table.write_cell.Tie as tie
 use Rattle.glyphs.proofs.table.write_cell.Reads as reads
@@ -6,29 +12,31 @@ use Rattle.glyphs.proofs.table.write_cell.Lts as lts
 use Rattle.glyphs.proofs.table.write_glyph.Reads as write-glyph-reads
 use Rattle.glyphs.proofs.table.write_wide.Reads as write-wide-reads
 
--- src/table.rt:87:9
 write-wide-requires : tie.Need-write-wide-requires
 write-wide-requires c κs = search needs
 
--- src/table.rt:87:9
 same-length : tie.Need-same-length
 same-length c = search needs
 
--- src/table.rt:87:9
 returns : tie.Need-returns
-returns c = ?
+returns c =
+    let at-if = c .before .before .before .before in
+    let start = at-if .before .before .before in
+    let a = start .args in
+    within-more _ 8 (a .left) (a .out .now) _ _ (glyph-short (a .table .now) (a .n)) (at-if .if1 .taken) (c .before .before .write-wide .ensures)
 
--- src/table.rt:89:5
 write-glyph-requires : tie.Need-write-glyph-requires
 write-glyph-requires c κs = search needs
 
--- src/table.rt:82:1
 same-length-2 : tie.Need-same-length-2
 same-length-2 c = search needs
 
--- src/table.rt:82:1
 returns-2 : tie.Need-returns-2
-returns-2 c = ?
+returns-2 c =
+    let at-if = c .before .before .before .before in
+    let a = at-if .before .before .before .args in
+    let w = c .before .before .write-glyph .ensures in
+    within-own _ (a .left) (a .out .now) _ _ (omega (arith, length-take (a .left) (glyphAt (a .table .now) (a .n)))) (w .0) (w .1)
 
 pub write-cell-spec : {M : Type 1} → statement M
 write-cell-spec =
