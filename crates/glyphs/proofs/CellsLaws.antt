@@ -12,10 +12,10 @@ use lib.Seq.{take-take, take-all, take-suc, drop-cons, drop-drop, take-append-le
 use borrow.Author.Tests.{le-leb, lt-leb, leb-true, leb-false}
 use Rattle.column.specs.Columns.{columnLimit}
 use Rattle.message.specs.Message.{trimEnd}
-use Rattle.message.proofs.MessageLaws.{trim-front, trim-behind, trim-length}
+use Rattle.message.proofs.MessageLaws.{trim-front, trim-behind, trim-take, trim-length}
 use Rattle.slices.specs.Joins.{joins, over, Writes}
 use Rattle.slices.proofs.JoinLaws.{joins-append, so-short}
-use Rattle.slices.proofs.OverLaws.{writes-all, part-length, copied-over}
+use Rattle.slices.proofs.OverLaws.{writes-all, writes-none, part-length, copied-over}
 use Rattle.glyphs.specs.Inner.{WritesWithin}
 use Rattle.glyphs.specs.Tables.{glyphAt, cellsText, firstCells, WritesCells}
 use Rattle.glyphs.proofs.TableLaws.{glyph-short, no-glyph, glyph-there}
@@ -358,3 +358,37 @@ pub own-end : (bs o p : List ℕ) (r : ℕ) → length bs ≤ length o → Write
 own-end bs o p r h w =
     writes-all bs o p r h (w .count)
     (sym (take-append-drop r p) ∙ ap₂ (λ (x y : List ℕ). x ++ y) (w .bytes) (ap (λ (i : ℕ). drop i p) (w .count) ∙ w .behind))
+
+module _ (t numbers : List ℕ) (width : ℕ) (o p : List ℕ) (r : ℕ) where
+  abbrev line : List ℕ
+  line = cellsText t (firstCells width numbers)
+
+  within-eights : length line ≤ 8 * length (firstCells width numbers)
+  within-eights =
+      let n : ℕ = length (firstCells width numbers) in
+      omega (arith, front-short t numbers width n, ap length (front-all t numbers width n (omega arith)))
+
+  -- by eight places each
+  pub wide-done : (behind count : ℕ) → count ≡ length (firstCells width numbers) → (8 ≤ behind) × (8 * count + behind ≤ length o) → WritesWithin line (r + 8) o p r
+      → WritesCells line behind o p r
+  wide-done behind count e h w =
+      cells-written line behind o p (r + 8) r (omega (arith, within-eights, e, h .1)) (omega (arith, w .count, h .0)) w
+
+  -- up to the end
+  pub exact-done : (behind all : ℕ) → all ≡ length line → all ≤ length o → behind ≤ length o - all → WritesWithin (take (all + behind) line) (all + behind) o p r
+      → WritesCells line behind o p r
+  exact-done behind all e h k w =
+      let f : take (all + behind) line ≡ line = take-all (all + behind) line (omega arith) in
+      cells-written line behind o p (all + behind) r (omega arith) (omega arith) (rw f at w)
+
+  -- the finished line
+  pub finished-length : (all blanks : ℕ) → all ≡ length line → blanks ≡ length line - length (trimEnd line) → (blanks ≤ all) × (all - blanks ≡ length (trimEnd line))
+  finished-length all blanks e f = (omega (arith, e, f), omega (arith, e, f, trim-length line))
+
+  pub finished-done : (end : ℕ) → end ≡ length (trimEnd line) → end ≤ length o → WritesWithin (take end line) end o p r → Writes (trimEnd line) o p r
+  finished-done end e h w =
+      let f : take end line ≡ trimEnd line = ap (λ (i : ℕ). take i line) e ∙ trim-take line in
+      own-end (trimEnd line) o p r (omega arith) (rw (f, e) at w)
+
+  pub finished-none : (end : ℕ) → end ≡ length (trimEnd line) → length o < end → Writes (trimEnd line) o o 0
+  finished-none end e h = writes-none (trimEnd line) o o 0 (omega arith) refl refl

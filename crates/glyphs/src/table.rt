@@ -97,13 +97,7 @@ fn cell_count(numbers: &[u8], width: usize) -> usize
 }
 
 // Writes the first `end` bytes of the cells of a line that has so many.
-fn write_first(
-    out: &mut [u8],
-    table: &[u8],
-    numbers: &[u8],
-    width: usize,
-    end: usize,
-) -> usize
+fn write_first(out: &mut [u8], table: &[u8], numbers: &[u8], width: usize, end: usize) -> usize
     requires { ⌜ end ≤ length (now out) ⌝ }
     ensures { λ r. ⌜ WritesWithin (take end (cellsText (now (table .entry)) (firstCells width (now (numbers .entry))))) end (now (out .entry)) (now (out .exit)) r ⌝ }
 {
@@ -221,12 +215,7 @@ pub fn write_cells(
 }
 
 // Writes the cells of a line without the blanks at its end, where there is room for them.
-pub fn write_finished(
-    out: &mut [u8],
-    table: &[u8],
-    numbers: &[u8],
-    width: usize,
-) -> usize
+pub fn write_finished(out: &mut [u8], table: &[u8], numbers: &[u8], width: usize) -> usize
     ensures { λ r. ⌜ Writes (trimEnd (cellsText (now (table .entry)) (firstCells width (now (numbers .entry))))) (now (out .entry)) (now (out .exit)) r ⌝ }
 {
     let end = cells_length(table, numbers, width) - trailing_blanks(table, numbers, width);

@@ -161,12 +161,7 @@ fn times(plan: Plan, renderer: Renderer, row: Row, line: Line) -> usize
 }
 
 // Chooses the glyphs of a line that is written so often, and gives how many cells it has.
-fn choose_line(
-    numbers: &mut [u8],
-    drawing: Drawing,
-    line: Line,
-    times: usize,
-) -> usize
+fn choose_line(numbers: &mut [u8], drawing: Drawing, line: Line, times: usize) -> usize
     requires { ⌜ length (now numbers) ≡ columnLimit ⌝ }
     ensures { λ r. ⌜ (0 < times → firstCells r (now (numbers .exit)) ≡ numbersIn drawing line) ⌝ }
 {
