@@ -1,5 +1,5 @@
 -- Columns as document 01 has them ("From columns to text", point 1): what a column is, merging, the lookups and reset.
-use Prim.Native.Nat.{ℕ, zero, suc, _≤_}
+use Prim.Native.Nat.{ℕ, suc, _≤_}
 use mathlib.Core.Path.{_≡_}
 use mathlib.Core.Bool.{Bool, true, false, cond}
 use mathlib.Core.List.{List, [], _∷_, map}

@@ -1,5 +1,5 @@
 -- A table of glyphs, as it is lent to the writers: the glyphs that it holds, and the numbers by which a renderer's cells are drawn from it.
-use Prim.Native.Nat.{ℕ, zero, suc, _+_, _*_, _≤_, min}
+use Prim.Native.Nat.{ℕ, suc, _+_, _*_, _≤_, min}
 use mathlib.Core.Path.{_≡_}
 use mathlib.Core.Bool.{cond}
 use mathlib.Core.List.{List, [], _∷_, _++_, map}

@@ -1,10 +1,7 @@
 // What each cell is given in each line, and the number by which it is drawn, in all renderers.
 ghost use mathlib.Core.Path.{_≡_};
 ghost use mathlib.Core.Bool.{cond};
-ghost use Prim.Native.Nat.{_≤_};
 ghost use lib.Dec.{ltb};
-ghost use lib.ListN.{take};
-ghost use Rattle.column.specs.Columns.{columnLimit};
 ghost use Rattle.glyphs.specs.Cells.{linkChoice, secondLinkChoice};
 ghost use Rattle.glyphs.specs.Choices.{padChoice, nodeChoice};
 ghost use Rattle.glyphs.specs.Inner.{isLink, linkLineChoice, nextIndex, nextLink, Plain, plainChoice, plainNumber};

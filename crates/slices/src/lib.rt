@@ -1,7 +1,6 @@
 // What every layer needs of numbers and of bytes: the greater and the lesser of two numbers, their difference, bytes written at the start of an output.
 ghost use mathlib.Core.Path.{_≡_};
 ghost use Prim.Native.Nat.{_-_, min, max};
-ghost use lib.ListN.{length};
 ghost use Rattle.slices.specs.Joins.{Writes};
 
 // The greater of two numbers.

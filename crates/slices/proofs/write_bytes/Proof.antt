@@ -5,9 +5,6 @@ use borrow.Author.Needs.{needs}
 use Rattle.slices.proofs.OverLaws.{writes-all, writes-none, copied-over}
 use Rattle.slices.proofs.write_bytes.Statement.{statement}
 use Rattle.slices.proofs.write_bytes.Tie as tie
-use Rattle.slices.proofs.write_bytes.Reads as reads
-use Rattle.slices.proofs.write_bytes.Lts as lts
-use Rattle.bytes.proofs.copy.Reads as copy-reads
 
 -- src/lib.rt:36:9
 returns : tie.Need-returns

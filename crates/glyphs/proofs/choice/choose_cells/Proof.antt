@@ -7,16 +7,6 @@ use borrow.Author.Needs.{needs}
 use Rattle.glyphs.proofs.ChoiceLaws.{Chosen, choose-link, choose-plain, choose-all, cells-long}
 use Rattle.glyphs.proofs.choice.choose_cells.Statement.{statement}
 use Rattle.glyphs.proofs.choice.choose_cells.Tie as tie
-use Rattle.glyphs.proofs.choice.choose_cells.Reads as reads
-use Rattle.glyphs.proofs.choice.choose_cells.Lts as lts
-use Rattle.glyphs.proofs.choice.is_link.Reads as is-link-reads
-use Rattle.glyphs.proofs.choice.link_number.Reads as link-number-reads
-use Rattle.glyphs.proofs.choice.next_index.Reads as next-index-reads
-use Rattle.glyphs.proofs.choice.next_link.Reads as next-link-reads
-use Rattle.glyphs.proofs.choice.numbers_at.Reads as numbers-at-reads
-use Rattle.glyphs.proofs.choice.plain_number.Reads as plain-number-reads
-use Rattle.glyphs.proofs.choice.plain_numbers.Reads as plain-numbers-reads
-use Rattle.slices.proofs.lesser.Reads as lesser-reads
 
 abbrev Inv-loop : tie.InvT-loop
 Inv-loop numbers₀ line drawing renderer row width count i₀ numbers i = Chosen drawing line count (length numbers₀) i numbers

@@ -1,12 +1,7 @@
 -- What a cell is given in a link line, a blank in another.
-use mathlib.Core.Path.{refl}
 use borrow.Author.Needs.{needs}
 use Rattle.glyphs.proofs.choice.link_line_choice.Statement.{statement}
 use Rattle.glyphs.proofs.choice.link_line_choice.Tie as tie
-use Rattle.glyphs.proofs.choice.link_line_choice.Reads as reads
-use Rattle.glyphs.proofs.choice.link_line_choice.Lts as lts
-use Rattle.glyphs.proofs.choice.link_choice.Reads as link-choice-reads
-use Rattle.glyphs.proofs.choice.second_link_choice.Reads as second-link-choice-reads
 
 enum-told : tie.Need-enum-told
 enum-told c = search needs

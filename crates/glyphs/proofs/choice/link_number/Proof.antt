@@ -8,10 +8,6 @@ use Rattle.glyphs.proofs.TableLaws.{number-small}
 use borrow.Author.Needs.{needs, fits-under}
 use Rattle.glyphs.proofs.choice.link_number.Statement.{statement}
 use Rattle.glyphs.proofs.choice.link_number.Tie as tie
-use Rattle.glyphs.proofs.choice.link_number.Reads as reads
-use Rattle.glyphs.proofs.choice.link_number.Lts as lts
-use Rattle.glyphs.proofs.choice.link_line_choice.Reads as link-line-choice-reads
-use Rattle.glyphs.proofs.choice.number_of.Reads as number-of-reads
 
 link-line-choice-requires : tie.Need-link-line-choice-requires
 link-line-choice-requires c κs = search needs

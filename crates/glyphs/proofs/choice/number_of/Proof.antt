@@ -4,11 +4,6 @@ use Rattle.glyphs.proofs.BoxLaws.{box-number}
 use borrow.Author.Needs.{needs}
 use Rattle.glyphs.proofs.choice.number_of.Statement.{statement}
 use Rattle.glyphs.proofs.choice.number_of.Tie as tie
-use Rattle.glyphs.proofs.choice.number_of.Reads as reads
-use Rattle.glyphs.proofs.choice.number_of.Lts as lts
-use Rattle.glyphs.proofs.ascii.number.Reads as ascii-number-reads
-use Rattle.glyphs.proofs.ascii_large.number.Reads as ascii-large-number-reads
-use Rattle.glyphs.proofs.box_drawing.number.Reads as box-drawing-number-reads
 
 enum-told : tie.Need-enum-told
 enum-told c = search needs

@@ -2,8 +2,6 @@
 use borrow.Author.Tests.{lt-ltb, le-ltb}
 use Rattle.glyphs.proofs.choice.numbers_at.Statement.{statement}
 use Rattle.glyphs.proofs.choice.numbers_at.Tie as tie
-use Rattle.glyphs.proofs.choice.numbers_at.Reads as reads
-use Rattle.glyphs.proofs.choice.numbers_at.Lts as lts
 
 returns : tie.Need-returns
 returns c = rw (lt-ltb _ _ (c .if1 .taken))

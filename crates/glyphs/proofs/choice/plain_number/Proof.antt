@@ -6,13 +6,6 @@ use Rattle.glyphs.proofs.ChoiceLaws.{plain-cond}
 use borrow.Author.Needs.{needs}
 use Rattle.glyphs.proofs.choice.plain_number.Statement.{statement}
 use Rattle.glyphs.proofs.choice.plain_number.Tie as tie
-use Rattle.glyphs.proofs.choice.plain_number.Reads as reads
-use Rattle.glyphs.proofs.choice.plain_number.Lts as lts
-use Rattle.glyphs.proofs.choice.node_number.Reads as node-number-reads
-use Rattle.glyphs.proofs.choice.pad_number.Reads as pad-number-reads
-use Rattle.glyphs.proofs.choice.term_number.Reads as term-number-reads
-use Rattle.render.proofs.render.NodeLine.to_pad_line.Reads as to-pad-line-reads
-use Rattle.render.proofs.render.PadLine.to_foot_line.Reads as to-foot-line-reads
 
 enum-told : tie.Need-enum-told
 enum-told c = search needs

@@ -3,11 +3,6 @@ use Rattle.glyphs.proofs.BoxLaws.{box-plain}
 use borrow.Author.Needs.{needs}
 use Rattle.glyphs.proofs.choice.plain_numbers.Statement.{statement}
 use Rattle.glyphs.proofs.choice.plain_numbers.Tie as tie
-use Rattle.glyphs.proofs.choice.plain_numbers.Reads as reads
-use Rattle.glyphs.proofs.choice.plain_numbers.Lts as lts
-use Rattle.glyphs.proofs.ascii.plain_numbers.Reads as ascii-plain-numbers-reads
-use Rattle.glyphs.proofs.ascii_large.plain_numbers.Reads as ascii-large-plain-numbers-reads
-use Rattle.glyphs.proofs.box_drawing.plain_numbers.Reads as box-drawing-plain-numbers-reads
 
 enum-told : tie.Need-enum-told
 enum-told c = search needs

@@ -2,9 +2,6 @@
 use borrow.Author.Needs.{needs}
 use Rattle.glyphs.proofs.choice.term_number.Statement.{statement}
 use Rattle.glyphs.proofs.choice.term_number.Tie as tie
-use Rattle.glyphs.proofs.choice.term_number.Reads as reads
-use Rattle.glyphs.proofs.choice.term_number.Lts as lts
-use Rattle.glyphs.proofs.choice.pad_number.Reads as pad-number-reads
 
 returns : tie.Need-returns
 returns c = search needs

@@ -5,10 +5,6 @@ use Rattle.message.proofs.MessageLaws.{trim-length}
 use Rattle.glyphs.specs.Tables.{glyphAt}
 use Rattle.glyphs.proofs.table.blanks_behind.Statement.{statement}
 use Rattle.glyphs.proofs.table.blanks_behind.Tie as tie
-use Rattle.glyphs.proofs.table.blanks_behind.Reads as reads
-use Rattle.glyphs.proofs.table.blanks_behind.Lts as lts
-use Rattle.glyphs.proofs.table.glyph_end.Reads as glyph-end-reads
-use Rattle.glyphs.proofs.table.glyph_length.Reads as glyph-length-reads
 
 glyph-length-requires : tie.Need-glyph-length-requires
 glyph-length-requires c κs = search needs

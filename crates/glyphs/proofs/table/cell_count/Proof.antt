@@ -6,9 +6,6 @@ use Rattle.column.specs.Columns.{columnLimit}
 use borrow.Author.Needs.{needs}
 use Rattle.glyphs.proofs.table.cell_count.Statement.{statement}
 use Rattle.glyphs.proofs.table.cell_count.Tie as tie
-use Rattle.glyphs.proofs.table.cell_count.Reads as reads
-use Rattle.glyphs.proofs.table.cell_count.Lts as lts
-use Rattle.slices.proofs.lesser.Reads as lesser-reads
 
 lesser-requires : tie.Need-lesser-requires
 lesser-requires c κs = search needs

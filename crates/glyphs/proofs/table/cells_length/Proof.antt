@@ -11,10 +11,6 @@ use Rattle.glyphs.proofs.CellsLaws.{front, front-next, front-all, front
 use Rattle.glyphs.proofs.TableLaws.{glyph-short}
 use Rattle.glyphs.proofs.table.cells_length.Statement.{statement}
 use Rattle.glyphs.proofs.table.cells_length.Tie as tie
-use Rattle.glyphs.proofs.table.cells_length.Reads as reads
-use Rattle.glyphs.proofs.table.cells_length.Lts as lts
-use Rattle.glyphs.proofs.table.cell_count.Reads as cell-count-reads
-use Rattle.glyphs.proofs.table.glyph_length.Reads as glyph-length-reads
 
 abbrev Inv-loop : tie.InvT-loop
 Inv-loop table numbers width count length₀ i₀ sum i = (i ≤ count) × (sum ≡ length (front table numbers width i))

@@ -10,10 +10,6 @@ use Rattle.glyphs.proofs.CellsLaws.{glyph-whole, glyph-trimmed}
 use Rattle.glyphs.proofs.TableLaws.{glyph-short}
 use Rattle.glyphs.proofs.table.glyph_end.Statement.{statement}
 use Rattle.glyphs.proofs.table.glyph_end.Tie as tie
-use Rattle.glyphs.proofs.table.glyph_end.Reads as reads
-use Rattle.glyphs.proofs.table.glyph_end.Lts as lts
-use Rattle.glyphs.proofs.table.glyph_length.Reads as glyph-length-reads
-use Rattle.message.proofs.trimmed_length.Reads as trimmed-length-reads
 
 glyph-length-requires : tie.Need-glyph-length-requires
 glyph-length-requires c κs = search needs

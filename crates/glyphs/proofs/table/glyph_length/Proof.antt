@@ -6,9 +6,6 @@ use Rattle.glyphs.proofs.CellsLaws.{glyph-counted}
 use Rattle.glyphs.proofs.TableLaws.{no-glyph}
 use Rattle.glyphs.proofs.table.glyph_length.Statement.{statement}
 use Rattle.glyphs.proofs.table.glyph_length.Tie as tie
-use Rattle.glyphs.proofs.table.glyph_length.Reads as reads
-use Rattle.glyphs.proofs.table.glyph_length.Lts as lts
-use Rattle.glyphs.proofs.table.at_most_eight.Reads as at-most-eight-reads
 
 mul-from : tie.Need-mul-from
 mul-from c = search needs

@@ -7,8 +7,6 @@ use borrow.Author.Tests.{leb-true}
 use borrow.Author.Needs.{needs}
 use Rattle.glyphs.proofs.table.is_wide.Statement.{statement}
 use Rattle.glyphs.proofs.table.is_wide.Tie as tie
-use Rattle.glyphs.proofs.table.is_wide.Reads as reads
-use Rattle.glyphs.proofs.table.is_wide.Lts as lts
 
 no : false ≡ true → ⊥
 no e = let z : _≡_ {A = ℕ} 0 1 = cc in omega arith

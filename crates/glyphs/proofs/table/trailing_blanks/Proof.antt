@@ -10,11 +10,6 @@ use Rattle.glyphs.proofs.CellsLaws.{Tail, tail-start, tail-stop, tail-n
 use Rattle.glyphs.proofs.TableLaws.{glyph-short}
 use Rattle.glyphs.proofs.table.trailing_blanks.Statement.{statement}
 use Rattle.glyphs.proofs.table.trailing_blanks.Tie as tie
-use Rattle.glyphs.proofs.table.trailing_blanks.Reads as reads
-use Rattle.glyphs.proofs.table.trailing_blanks.Lts as lts
-use Rattle.glyphs.proofs.table.blanks_behind.Reads as blanks-behind-reads
-use Rattle.glyphs.proofs.table.cell_count.Reads as cell-count-reads
-use Rattle.glyphs.proofs.table.glyph_end.Reads as glyph-end-reads
 
 abbrev Inv-loop : tie.InvT-loop
 Inv-loop table numbers width n₀ blanks₀ n blanks = Tail table numbers width n blanks

@@ -12,10 +12,6 @@ use Rattle.glyphs.proofs.CellsLaws.{Eights, eights-start, eights-at, ei
 use Rattle.glyphs.proofs.TableLaws.{glyph-short}
 use Rattle.glyphs.proofs.table.write_by_eight.Statement.{statement}
 use Rattle.glyphs.proofs.table.write_by_eight.Tie as tie
-use Rattle.glyphs.proofs.table.write_by_eight.Reads as reads
-use Rattle.glyphs.proofs.table.write_by_eight.Lts as lts
-use Rattle.glyphs.proofs.table.cell_count.Reads as cell-count-reads
-use Rattle.glyphs.proofs.table.write_wide.Reads as write-wide-reads
 
 abbrev Inv-loop : tie.InvT-loop
 Inv-loop out₀ table numbers width count at₀ i₀ out at i = Eights table numbers width out₀ i at out

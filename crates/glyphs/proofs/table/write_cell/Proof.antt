@@ -7,10 +7,6 @@ use Rattle.glyphs.proofs.CellsLaws.{within-more, within-own}
 use Rattle.glyphs.proofs.TableLaws.{glyph-short}
 use Rattle.glyphs.proofs.table.write_cell.Statement.{statement}
 use Rattle.glyphs.proofs.table.write_cell.Tie as tie
-use Rattle.glyphs.proofs.table.write_cell.Reads as reads
-use Rattle.glyphs.proofs.table.write_cell.Lts as lts
-use Rattle.glyphs.proofs.table.write_glyph.Reads as write-glyph-reads
-use Rattle.glyphs.proofs.table.write_wide.Reads as write-wide-reads
 
 write-wide-requires : tie.Need-write-wide-requires
 write-wide-requires c κs = search needs

@@ -2,18 +2,10 @@
 use native.Mathlib.Omega.{arith}
 use mir.Syntax.{w64}
 use borrow.Author.Needs.{needs, fits-under}
-use Rattle.glyphs.proofs.CellsLaws.{cells-none, wide-done, exact-done, all-short}
+use Rattle.glyphs.proofs.CellsLaws.{cells-none, wide-done, exact-done}
 use Rattle.glyphs.specs.Tables.{cellsText, firstCells}
-use mathlib.Core.Path.{sym, _∙_}
 use Rattle.glyphs.proofs.table.write_cells.Statement.{statement}
 use Rattle.glyphs.proofs.table.write_cells.Tie as tie
-use Rattle.glyphs.proofs.table.write_cells.Reads as reads
-use Rattle.glyphs.proofs.table.write_cells.Lts as lts
-use Rattle.glyphs.proofs.table.cell_count.Reads as cell-count-reads
-use Rattle.glyphs.proofs.table.cells_length.Reads as cells-length-reads
-use Rattle.glyphs.proofs.table.is_wide.Reads as is-wide-reads
-use Rattle.glyphs.proofs.table.write_by_eight.Reads as write-by-eight-reads
-use Rattle.glyphs.proofs.table.write_first.Reads as write-first-reads
 
 cell-count-requires : tie.Need-cell-count-requires
 cell-count-requires c κs = search needs

@@ -1,14 +1,8 @@
 -- Writes the cells of a line without the blanks at its end, where there is room for them.
-use native.Mathlib.Omega.{arith}
 use borrow.Author.Needs.{needs}
 use Rattle.glyphs.proofs.CellsLaws.{finished-length, finished-done, finished-none}
 use Rattle.glyphs.proofs.table.write_finished.Statement.{statement}
 use Rattle.glyphs.proofs.table.write_finished.Tie as tie
-use Rattle.glyphs.proofs.table.write_finished.Reads as reads
-use Rattle.glyphs.proofs.table.write_finished.Lts as lts
-use Rattle.glyphs.proofs.table.cells_length.Reads as cells-length-reads
-use Rattle.glyphs.proofs.table.trailing_blanks.Reads as trailing-blanks-reads
-use Rattle.glyphs.proofs.table.write_first.Reads as write-first-reads
 
 cells-length-requires : tie.Need-cells-length-requires
 cells-length-requires c κs = search needs

@@ -11,10 +11,6 @@ use Rattle.glyphs.specs.Tables.{glyphAt, firstCells}
 use Rattle.glyphs.proofs.CellsLaws.{First, first-start, first-at, first-next, first-end}
 use Rattle.glyphs.proofs.table.write_first.Statement.{statement}
 use Rattle.glyphs.proofs.table.write_first.Tie as tie
-use Rattle.glyphs.proofs.table.write_first.Reads as reads
-use Rattle.glyphs.proofs.table.write_first.Lts as lts
-use Rattle.glyphs.proofs.table.cell_count.Reads as cell-count-reads
-use Rattle.glyphs.proofs.table.write_cell.Reads as write-cell-reads
 
 abbrev Inv-loop : tie.InvT-loop
 Inv-loop out₀ table numbers width end count at₀ i₀ out at i = First table numbers width end out₀ i at out

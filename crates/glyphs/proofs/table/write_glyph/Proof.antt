@@ -8,11 +8,6 @@ use Rattle.glyphs.proofs.CellsLaws.{glyph-none, glyph-some, glyph-part,
 use Rattle.glyphs.proofs.TableLaws.{glyph-short}
 use Rattle.glyphs.proofs.table.write_glyph.Statement.{statement}
 use Rattle.glyphs.proofs.table.write_glyph.Tie as tie
-use Rattle.glyphs.proofs.table.write_glyph.Reads as reads
-use Rattle.glyphs.proofs.table.write_glyph.Lts as lts
-use Rattle.bytes.proofs.copy.Reads as copy-reads
-use Rattle.glyphs.proofs.table.glyph_length.Reads as glyph-length-reads
-use Rattle.slices.proofs.lesser.Reads as lesser-reads
 
 glyph-length-requires : tie.Need-glyph-length-requires
 glyph-length-requires c κs = search needs

@@ -6,9 +6,6 @@ use Rattle.glyphs.proofs.CellsLaws.{within-none, within-eight, eight-st
 use Rattle.glyphs.proofs.TableLaws.{no-glyph}
 use Rattle.glyphs.proofs.table.write_wide.Statement.{statement}
 use Rattle.glyphs.proofs.table.write_wide.Tie as tie
-use Rattle.glyphs.proofs.table.write_wide.Reads as reads
-use Rattle.glyphs.proofs.table.write_wide.Lts as lts
-use Rattle.glyphs.proofs.table.at_most_eight.Reads as at-most-eight-reads
 
 mul-from : tie.Need-mul-from
 mul-from c = search needs
