@@ -1,12 +1,11 @@
 // Lines written into the output, and what is kept between rows, after output.rs. Each writer is lent the unwritten part of the output, and gives the count written.
 ghost use mathlib.Core.Path.{_≡_};
 ghost use mathlib.Core.List.{[], _∷_};
-ghost use Prim.Native.Nat.{_<_, _≤_, min};
+ghost use Prim.Native.Nat.{min};
 ghost use lib.Dec.{eqb};
-ghost use lib.ListN.{length, take};
-ghost use Rattle.message.specs.Message.{trimEnd};
+ghost use lib.ListN.{length};
 ghost use Rattle.output.specs.Output.{queueLimit, ended, finish, textOf, measureOf, flushed, linesAbove, beginRow, textViewOf, Puts};
-ghost use Rattle.slices.specs.Joins.{over, Writes};
+ghost use Rattle.slices.specs.Joins.{Writes};
 use message::trimmed_length;
 use slices::greater;
 use slices::lesser;
