@@ -3,3 +3,4 @@ pub mod CellsLaws
 pub mod ChoiceLaws
 pub mod PlaceLaws
 pub mod TableLaws
+pub mod WriteLaws

@@ -1,69 +1,313 @@
--- Laws of one line of text: its length, and how it is written.
+-- Laws of one line of text: its lengths, and how it is written.
 use mathlib.Core.Path.{_≡_, refl, sym, ap, _∙_}
+use mathlib.Core.Bool.{Bool, true, false, cond}
 use mathlib.Core.List.{List, [], _∷_, _++_, append-assoc, append-nil}
-use Prim.Native.Nat.{ℕ, _+_, _*_, _-_, _<_, _≤_}
+use Prim.Native.Nat.{ℕ, zero, suc, _+_, _-_, _<_, _≤_}
+use native.Mathlib.Numerals.{add-one}
 use native.Mathlib.Omega.{arith}
-use lib.ListN.{length, take, drop, set, length-append, length-take}
-use lib.Seq.{take-at}
-use Rattle.glyphs.specs.declared.types.Line.{Line}
-use Rattle.slices.specs.Joins.{over}
-use Rattle.glyphs.proofs.CellLaws.{cells-short}
-use Rattle.slices.proofs.OverLaws.{over-one, length-over, part-written}
-use Rattle.message.specs.Message.{trimEnd}
+use lib.Dec.{eqb}
+use lib.ListN.{length, take, drop, getD, set, replicate, length-append, length-take, length-drop, length-replicate, getD-replicate, drop-of-length-le}
+use lib.Seq.{take-at, take-all, length-take-le, getD-take, paste, paste-suc}
+use borrow.Author.Tests.{eqb-true, eqb-false, eq-eqb, ne-eqb}
+use Rattle.slices.specs.Characters.{newline, blank}
+use Rattle.slices.specs.Joins.{over, Writes}
+use Rattle.slices.proofs.OverLaws.{so-far, so-far-step, so-far-end, over-one, length-over, part-room, part-written, wrote, wrote-count}
+use Rattle.message.specs.Message.{trimEnd, keepLast}
 use Rattle.message.proofs.MessageLaws.{keep-more, trim-length, trim-front, trim-behind}
-use Rattle.output.specs.declared.Put.{Put}
-use Rattle.output.specs.Output.{ended, measureOf, textOf, Puts}
-use Rattle.output.proofs.PutLaws.{put-part}
-use Rattle.text.specs.declared.prefix_lines_to_text.Drawn.{Drawn}
-use Rattle.text.specs.Inner.{prefixText, lineWith}
+use Rattle.glyphs.specs.Tables.{WritesCells}
+use Rattle.glyphs.proofs.WriteLaws.{cells-count, cells-then}
+use Rattle.output.specs.Output.{ended, measureOf}
+use Rattle.text.specs.declared.lines.Lengths.{Lengths}
+use Rattle.text.specs.Inner.{Measured, lineWith, behindFinished, prefixAgain, WritesLine, WritesLineAt}
+
+-- ---- blanks at the end
+nothing : (l : List ℕ) → length l ≡ 0 → l ≡ []
+nothing [] e = refl
+nothing (x ∷ l) e = absurd (omega (arith, e))
+
+-- bytes are what is left of them, and the blanks that it lacks
+pub trim-blanks : (s : List ℕ) → s ≡ trimEnd s ++ replicate (length s - length (trimEnd s)) blank
+trim-blanks [] = refl
+trim-blanks (x ∷ xs) = go (trimEnd xs) (trim-blanks xs)
+  where
+    go : (t : List ℕ) → xs ≡ t ++ replicate (length xs - length t) blank → x ∷ xs ≡ keepLast x t ++ replicate (suc (length xs) - length (keepLast x t)) blank
+    go [] e = by-test (eqb x blank) refl
+      where
+        z : length xs - 0 ≡ length xs
+        z = omega arith
+
+        by-test : (b : Bool) → eqb x blank ≡ b → x ∷ xs ≡ keepLast x [] ++ replicate (suc (length xs) - length (keepLast x [])) blank
+        by-test true q =
+            let k : suc (length xs) - 0 ≡ suc (length xs) = omega arith in
+            rw (q, k, eqb-true x blank q) (ap (λ (l : List ℕ). blank ∷ l) (rw z at e))
+        by-test false q =
+            let k : suc (length xs) - 1 ≡ length xs - 0 = omega arith in
+            rw (q, k) (ap (λ (l : List ℕ). x ∷ l) e)
+    go (y ∷ t) e =
+        let k : suc (length xs) - suc (suc (length t)) ≡ length xs - suc (length t) = omega arith in
+        rw k (ap (λ (l : List ℕ). x ∷ l) e)
+
+-- what is left has no more to lose
+pub trim-again : (s : List ℕ) → trimEnd (trimEnd s) ≡ trimEnd s
+trim-again [] = refl
+trim-again (x ∷ xs) = go (trimEnd xs) (trim-again xs)
+  where
+    go : (t : List ℕ) → trimEnd t ≡ t → trimEnd (keepLast x t) ≡ keepLast x t
+    go [] e = by-test (eqb x blank) refl
+      where
+        by-test : (b : Bool) → eqb x blank ≡ b → trimEnd (keepLast x []) ≡ keepLast x []
+        by-test true q = rw q refl
+        by-test false q = rw q (rw q refl)
+    go (y ∷ t) e = ap (keepLast x) e
+
+blanks-go : (n : ℕ) → trimEnd (replicate n blank) ≡ []
+blanks-go zero = refl
+blanks-go (suc n) = rw (blanks-go n) refl
 
 -- ---- a finished line: xs, a blank and a message line
+pub ended-length : (l : List ℕ) → length (ended l) ≡ length l + 1
+ended-length l = length-append l (newline ∷ [])
+
 module _ (xs part : List ℕ) where
   -- it is no longer than its parts
   pub line-short : length (lineWith xs part) ≤ length xs + 1 + length part
-  line-short = omega (arith, trim-length (xs ++ (0x20 ∷ part)), length-append xs (0x20 ∷ part))
+  line-short = omega (arith, trim-length (xs ++ (blank ∷ part)), length-append xs (blank ∷ part))
 
   -- a message line of blanks
   pub line-none : length (trimEnd part) ≡ 0 → lineWith xs part ≡ trimEnd xs
-  line-none e = trim-front xs (0x20 ∷ part) (rw (nothing (trimEnd part) e) refl)
-    where
-      nothing : (l : List ℕ) → length l ≡ 0 → l ≡ []
-      nothing [] e = refl
-      nothing (x ∷ l) e = absurd (omega (arith, e))
+  line-none e = trim-front xs (blank ∷ part) (rw (nothing (trimEnd part) e) refl)
 
   -- and one of more
-  module _ (some : 0 < length (trimEnd part)) where
-    line-some : lineWith xs part ≡ xs ++ (0x20 ∷ trimEnd part)
-    line-some =
-        let e : trimEnd (0x20 ∷ part) ≡ 0x20 ∷ trimEnd part = keep-more 0x20 (trimEnd part) some in
-        trim-behind xs (0x20 ∷ part) (rw e (omega arith)) ∙ ap (λ (l : List ℕ). xs ++ l) e
+  pub line-some : 0 < length (trimEnd part) → lineWith xs part ≡ xs ++ (blank ∷ trimEnd part)
+  line-some some =
+      let e : trimEnd (blank ∷ part) ≡ blank ∷ trimEnd part = keep-more blank (trimEnd part) some in
+      trim-behind xs (blank ∷ part) (rw e (omega arith)) ∙ ap (λ (l : List ℕ). xs ++ l) e
 
-    pub some-length : length xs + 1 + length (trimEnd part) ≡ length (lineWith xs part)
-    some-length = omega (arith, ap length line-some, length-append xs (0x20 ∷ trimEnd part))
+-- ---- the lengths
+pub lengths-done : (xs : List ℕ) (a b : ℕ) → a ≡ length xs → b ≡ length xs - length (trimEnd xs) → Measured xs (record { all = a; finished = a - b })
+lengths-done xs a b e f = record { all = e; finished = omega (arith, e, f, trim-length xs) }
 
-    -- xs was written, then a blank and the message line
-    pub line-written : (end : ℕ) (d o : List ℕ) {p : List ℕ} {m : ℕ} {r : Put} → end ≡ length (lineWith xs part) → end < length d → o ≡ over xs d
-        → Puts (trimEnd part ∷ []) (length xs + 1) (set o (length xs) 0x20) p r → m ≡ measureOf (take (end - 0) (drop 0 p))
-        → (m ≡ measureOf (lineWith xs part)) × (p ≡ over (ended (lineWith xs part)) d)
-    line-written end d o {p} {m} e fits q b f =
-        let ys : List ℕ = xs ++ (0x20 ∷ []) in
-        let y : length ys ≡ length xs + 1 = length-append xs (0x20 ∷ []) in
-        let k : set o (length xs) 0x20 ≡ over ys d = over-one xs d 0x20 q refl (omega (arith, some-length)) in
-        let room : length (set o (length xs) 0x20) ≡ length d = ap length k ∙ length-over ys d (omega (arith, some-length)) in
-        let x : textOf (trimEnd part ∷ []) ≡ ended (trimEnd part) = append-nil (ended (trimEnd part)) in
-        let v : length xs + 1 + length (textOf (trimEnd part ∷ [])) ≤ length (set o (length xs) 0x20) = rw x (omega (arith, some-length, length-append (trimEnd part) (0x0a ∷ []))) in
-        let z : ys ++ ended (trimEnd part) ≡ ended (lineWith xs part) = rw line-some (simp append-assoc) in
-        let w : p ≡ over (ended (lineWith xs part)) d
-        = rw x at (b .bytes v)
-        ∙ sym (put-part (ended (trimEnd part)) (set o (length xs) 0x20) _ (length xs + 1) refl)
-        ∙ part-written ys (ended (trimEnd part)) d k (sym y) refl
-        ∙ ap (λ (l : List ℕ). over l d) z in
-        let t : end - 0 ≡ end = omega arith in
-        let u : take end p ≡ lineWith xs part = rw (w, append-assoc) (take-at (lineWith xs part) _ end (sym e)) in
-        (rw (t, u) at f, w)
+module _ (part : List ℕ) (n : ℕ) (e : n ≡ length (trimEnd part)) where
+  pub length-none : n ≡ 0 → (r : Lengths) (xs : List ℕ) → Measured xs r → r .finished + 1 ≡ length (ended (lineWith xs part))
+  length-none z r xs m = rw (line-none xs part (sym e ∙ z), ended-length (trimEnd xs), m .finished) refl
 
--- ---- how long a prefix line can be, for glyphs of at most eight bytes
-pub prefix-short : (glyphs : ℕ → List ℕ) (d : Drawn) (l : Line) → ((n : ℕ) → length (glyphs n) ≤ 8) → length (prefixText glyphs d l) ≤ 8 * d .width
-unfolding prefixText
-prefix-short glyphs d l s =
-    omega (arith, cells-short glyphs s (d .renderer) (d .row) (d .mark) l (take (d .width) (d .cells)), length-take (d .width) (d .cells))
+  pub length-some : (n ≡ 0 → ⊥) → (r : Lengths) (xs : List ℕ) → Measured xs r → r .all + n + 2 ≡ length (ended (lineWith xs part))
+  length-some z r xs m =
+      let some : 0 < length (trimEnd part) = omega (arith, e, z) in
+      omega (arith, ap length (line-some xs part some), length-append xs (blank ∷ trimEnd part), ended-length (lineWith xs part), m .all, e)
+
+-- ---- a blank and a message line with its end
+module _ (part d : List ℕ) (room : length part + 2 ≤ length d) where
+  first-blank : set d 0 blank ≡ over (blank ∷ []) d
+  first-blank = over-one [] d blank refl refl (omega arith)
+
+  pub first-room : length (set d 0 blank) ≡ length d
+  first-room = ap length first-blank ∙ length-over (blank ∷ []) d (omega arith)
+
+  pub part-done : (p : List ℕ) (k : ℕ) → Writes (ended part) (take (length (set d 0 blank) - 1) (drop 1 (set d 0 blank))) p k
+      → (1 + k ≡ length part + 2)
+      × (take 1 (set d 0 blank) ++ (p ++ drop (length (set d 0 blank) - 1) (drop 1 (set d 0 blank))) ≡ over (blank ∷ ended part) d)
+  part-done p k w =
+      let o : List ℕ = set d 0 blank in
+      let lent : List ℕ = take (length o - 1) (drop 1 o) in
+      let h : length (ended part) ≤ length lent = omega (arith, part-room o 1, first-room, ended-length part) in
+      (omega (arith, wrote-count (ended part) lent p k w h, ended-length part), part-written (blank ∷ []) (ended part) d first-blank refl (wrote (ended part) lent p k w h))
+
+-- ---- a line with cells
+module _ (xs part d : List ℕ) (n : ℕ) (e : n ≡ length (trimEnd part)) (room : length (ended (lineWith xs part)) ≤ length d) where
+  -- a message line of blanks: the finished cells, and the end
+  module _ (z : n ≡ 0) (o : List ℕ) (end : ℕ) (w : Writes (trimEnd xs) d o end) where
+    none-line : lineWith xs part ≡ trimEnd xs
+    none-line = line-none xs part (sym e ∙ z)
+
+    none-fits : length (trimEnd xs) < length d
+    none-fits = omega (arith, ap length none-line, ended-length (lineWith xs part), room)
+
+    pub none-end : end ≡ length (trimEnd xs)
+    none-end = wrote-count (trimEnd xs) d o end w (omega (arith, none-fits))
+
+    pub none-room : end < length d
+    none-room = omega (arith, none-end, none-fits)
+
+    none-written : set o end newline ≡ over (ended (trimEnd xs)) d
+    none-written = over-one (trimEnd xs) d newline (wrote (trimEnd xs) d o end w (omega (arith, none-fits))) none-end none-fits
+
+    pub none-done : (m : ℕ) → m ≡ measureOf (take (end - 0) (drop 0 (set o end newline)))
+        → WritesLine (lineWith xs part) d (set o end newline) (record { length = end + 1; measure = m })
+    none-done m f =
+        let k : length (set o end newline) ≡ length d
+        = ap length none-written ∙ length-over (ended (trimEnd xs)) d (omega (arith, ended-length (trimEnd xs), none-fits)) in
+        record {
+          count = omega (arith, none-end, ap length none-line, ended-length (lineWith xs part));
+          output = none-written ∙ ap (λ (l : List ℕ). over (ended l) d) (sym none-line);
+          measure = omega (arith, f, length-take (end - 0) (set o end newline), k, none-end, none-fits, ap length none-line);
+        }
+
+  -- and one of more: all cells, a blank, the message line and the end
+  module _ (some : n ≡ 0 → ⊥) (t : take n part ≡ trimEnd part) where
+    abbrev rest : List ℕ
+    rest = blank ∷ ended (trimEnd part)
+
+    some-line : lineWith xs part ≡ xs ++ (blank ∷ trimEnd part)
+    some-line = line-some xs part (omega (arith, e, some))
+
+    rest-length : length rest ≡ n + 2
+    rest-length = omega (arith, ended-length (trimEnd part), e)
+
+    some-bytes : xs ++ rest ≡ ended (lineWith xs part)
+    some-bytes = rw some-line (sym (append-assoc xs (blank ∷ trimEnd part) (newline ∷ [])))
+
+    pub some-room : length xs + (n + 2) ≤ length d
+    some-room = omega (arith, ap length some-bytes, length-append xs rest, rest-length, room)
+
+    module _ (o : List ℕ) (at : ℕ) (w : WritesCells xs (n + 2) d o at) where
+      pub some-end : at ≡ length xs
+      some-end = cells-count xs (n + 2) d o at w some-room
+
+      pub some-done : (p : List ℕ) (k m : ℕ) → length o ≡ length d
+          → (k ≡ length (take (n - 0) (drop 0 part)) + 2) × (p ≡ over (blank ∷ ended (take (n - 0) (drop 0 part))) (take (length o - at) (drop at o)))
+          → m ≡ measureOf (take (at + k - 1 - 0) (drop 0 (take at o ++ (p ++ drop (length o - at) (drop at o)))))
+          → WritesLine (lineWith xs part) d (take at o ++ (p ++ drop (length o - at) (drop at o))) (record { length = at + k; measure = m })
+      some-done p k m same (f, g) q =
+          let z : n - 0 ≡ n = omega arith in
+          let all : take (length o - at) (drop at o) ≡ drop at o = take-all (length o - at) (drop at o) (rw (length-drop at o) (omega arith)) in
+          let gone : drop (length o - at) (drop at o) ≡ [] = drop-of-length-le (drop at o) {i = length o - at} (rw (length-drop at o) (omega arith)) in
+          let w-is : take (n - 0) (drop 0 part) ≡ trimEnd part = rw z t in
+          let p-is : p ≡ over rest (drop at o) = rw (w-is, all) at g in
+          let back : take at o ++ (p ++ drop (length o - at) (drop at o)) ≡ take at o ++ over rest (drop at o) = rw (gone, append-nil, p-is) refl in
+          let whole : take at o ++ (p ++ drop (length o - at) (drop at o)) ≡ over (ended (lineWith xs part)) d
+          = cells-then xs rest d o at (rw rest-length w) (rw rest-length some-room) back ∙ ap (λ (l : List ℕ). over l d) some-bytes in
+          let long : length (take at o ++ (p ++ drop (length o - at) (drop at o))) ≡ length d = ap length whole ∙ length-over (ended (lineWith xs part)) d room in
+          let count : at + k ≡ length (ended (lineWith xs part))
+          = omega (arith, some-end, f, ap length w-is, e, ap length some-bytes, length-append xs rest, rest-length) in
+          record {
+            count = count;
+            output = whole;
+            measure = omega (arith, q, length-take (at + k - 1 - 0) (take at o ++ (p ++ drop (length o - at) (drop at o))), long, count, room, ended-length (lineWith xs part));
+          }
+
+-- ---- loops over bytes
+-- the first bytes of d, copied from `at` on: o says so of the first i of them
+module _ (d : List ℕ) (count at i : ℕ) (before : count ≤ at) (room : at + count ≤ length d) {o : List ℕ} (e : o ≡ paste d at d i) where
+  pub copy-next : i < count → set o (at + i) (getD o i 0) ≡ paste d at d (i + 1)
+  copy-next h =
+      let k : take at o ≡ take at d
+      = ap (take at) (e ∙ append-assoc (take at d) (take i d) (drop (at + i) d)) ∙ take-at (take at d) (take i d ++ drop (at + i) d) at (length-take-le at d (omega arith)) in
+      let v : getD o i 0 ≡ getD d i 0
+      = sym (getD-take at o i 0 (omega arith)) ∙ ap (λ (l : List ℕ). getD l i 0) k ∙ getD-take at d i 0 (omega arith) in
+      rw (v, e, add-one) (paste-suc d at d i 0 (omega arith) (omega arith))
+
+  pub copy-end : count ≤ i → i ≤ count → o ≡ take at d ++ (take count d ++ drop (at + count) d)
+  copy-end h k =
+      let z : i ≡ count = omega arith in
+      e ∙ append-assoc (take at d) (take i d) (drop (at + i) d) ∙ ap (λ (j : ℕ). take at d ++ (take j d ++ drop (at + j) d)) z
+
+-- blanks over the start of d: o says so of the first i of them
+module _ (d : List ℕ) (count i : ℕ) (room : count ≤ length d) {o : List ℕ} (e : o ≡ so-far (replicate count blank) i d) where
+  pub blank-next : i < count → set o i blank ≡ so-far (replicate count blank) (i + 1) d
+  blank-next h =
+      so-far-step (replicate count blank) d i e (sym (getD-replicate count i blank 0 h)) (omega (arith, length-replicate count blank)) (omega (arith, length-replicate count blank))
+
+  pub blank-end : count ≤ i → i ≤ count → o ≡ over (replicate count blank) d
+  blank-end h k = so-far-end (replicate count blank) d i e (omega (arith, length-replicate count blank))
+
+-- ---- what stands behind a finished prefix line
+module _ (blanks : ℕ) (part d : List ℕ) (n : ℕ) (e : n ≡ length (trimEnd part)) (room : length (behindFinished blanks part) ≤ length d) where
+  module _ (z : n ≡ 0) where
+    behind-end : behindFinished blanks part ≡ newline ∷ []
+    behind-end = rw (eq-eqb (length (trimEnd part)) 0 (sym e ∙ z)) refl
+
+    pub behind-none : (1 ≡ length (behindFinished blanks part)) × (set d 0 newline ≡ over (behindFinished blanks part) d)
+    behind-none = rw behind-end (refl, over-one [] d newline refl refl (omega (arith, ap length behind-end, room)))
+
+  module _ (some : n ≡ 0 → ⊥) (t : take n part ≡ trimEnd part) where
+    behind-more : behindFinished blanks part ≡ replicate blanks blank ++ (blank ∷ ended (trimEnd part))
+    behind-more = rw (ne-eqb (length (trimEnd part)) 0 (λ z. some (e ∙ z))) refl
+
+    pub behind-room : blanks + (n + 2) ≤ length d
+    behind-room =
+        omega (arith, ap length behind-more, length-append (replicate blanks blank) (blank ∷ ended (trimEnd part)), length-replicate blanks blank, ended-length (trimEnd part), e, room)
+
+    pub behind-done : (o p : List ℕ) (k : ℕ) → o ≡ over (replicate blanks blank) d
+        → (k ≡ length (take (n - 0) (drop 0 part)) + 2) × (p ≡ over (blank ∷ ended (take (n - 0) (drop 0 part))) (take (length o - blanks) (drop blanks o)))
+        → (blanks + k ≡ length (behindFinished blanks part))
+        × (take blanks o ++ (p ++ drop (length o - blanks) (drop blanks o)) ≡ over (behindFinished blanks part) d)
+    behind-done o p k f (g, h) =
+        let z : n - 0 ≡ n = omega arith in
+        let w : take (n - 0) (drop 0 part) ≡ trimEnd part = rw z t in
+        let c : blanks + k ≡ length (behindFinished blanks part)
+        = omega (arith, g, ap length w, ap length behind-more, length-append (replicate blanks blank) (blank ∷ ended (trimEnd part)), length-replicate blanks blank, ended-length (trimEnd part)) in (
+          c,
+          part-written (replicate blanks blank) (blank ∷ ended (trimEnd part)) d f (sym (length-replicate blanks blank)) (rw w at h)
+              ∙ ap (λ (l : List ℕ). over l d) (sym behind-more),
+        )
+
+-- it has a byte at least, the end
+pub behind-some : (blanks : ℕ) (part : List ℕ) → 0 < length (behindFinished blanks part)
+behind-some blanks part = go (eqb (length (trimEnd part)) 0)
+  where
+    go : (b : Bool) → 0 < length (cond b (newline ∷ []) (replicate blanks blank ++ (blank ∷ ended (trimEnd part))))
+    go true = omega arith
+    go false = omega (arith, length-append (replicate blanks blank) (blank ∷ ended (trimEnd part)))
+
+-- ---- a prefix line once more
+-- finished bytes, and what stands behind them
+behind-line : (f part : List ℕ) (b : ℕ) → trimEnd f ≡ f → f ++ behindFinished b part ≡ ended (lineWith (f ++ replicate b blank) part)
+behind-line f part b e = go (eqb (length (trimEnd part)) 0) refl
+  where
+    whole : List ℕ
+    whole = f ++ replicate b blank
+
+    go : (t : Bool) → eqb (length (trimEnd part)) 0 ≡ t → f ++ behindFinished b part ≡ ended (lineWith whole part)
+    go true q = rw (q, line-none whole part (eqb-true (length (trimEnd part)) 0 q), trim-front f (replicate b blank) (blanks-go b), e) refl
+    go false q =
+        let n : length (trimEnd part) ≡ 0 → ⊥ = eqb-false (length (trimEnd part)) 0 q in
+        rw (q, line-some whole part (omega (arith, n))) (simp append-assoc)
+
+-- a prefix line whose finished bytes stand in the output
+pub prefix-same : (xs out : List ℕ) (r : Lengths) → Measured xs r → take (r .finished) out ≡ trimEnd xs → prefixAgain r out ≡ xs
+prefix-same xs out r m e = rw (e, m .all, m .finished) (sym (trim-blanks xs))
+
+module _ (r : Lengths) (at : ℕ) (part d : List ℕ) (within : r .finished ≤ at) (e : trimEnd (take (r .finished) d) ≡ take (r .finished) d)
+    (room : at + length (ended (lineWith (prefixAgain r d) part)) ≤ length d) where
+  abbrev front : List ℕ
+  front = take (r .finished) d
+
+  abbrev behind : List ℕ
+  behind = behindFinished (r .all - r .finished) part
+
+  again-line : front ++ behind ≡ ended (lineWith (prefixAgain r d) part)
+  again-line = behind-line front part (r .all - r .finished) e
+
+  front-length : length front ≡ r .finished
+  front-length = length-take-le (r .finished) d (omega arith)
+
+  pub again-length : r .finished + length (behindFinished (r .all - r .finished) part) ≡ length (ended (lineWith (prefixAgain r d) part))
+  again-length = omega (arith, ap length again-line, length-append front behind, front-length)
+
+  pub again-room : at + (r .finished + length (behindFinished (r .all - r .finished) part)) ≤ length d
+  again-room = omega (arith, again-length, room)
+
+  pub again-done : (o p : List ℕ) (k m : ℕ) → length o ≡ length d → o ≡ take at d ++ (take (r .finished) d ++ drop (at + r .finished) d)
+      → (k ≡ length (behindFinished (r .all - r .finished) part))
+      × (p ≡ over (behindFinished (r .all - r .finished) part) (take (length o - (at + r .finished)) (drop (at + r .finished) o)))
+      → m ≡ measureOf (take (at + (r .finished + k) - 1 - at) (drop at (take (at + r .finished) o ++ (p ++ drop (length o - (at + r .finished)) (drop (at + r .finished) o)))))
+      → WritesLineAt (lineWith (prefixAgain r d) part) at d (take (at + r .finished) o ++ (p ++ drop (length o - (at + r .finished)) (drop (at + r .finished) o)))
+      (record { length = r .finished + k; measure = m })
+  again-done o p k m same f (g, h) q =
+      let l : List ℕ = lineWith (prefixAgain r d) part in
+      let from : ℕ = at + r .finished in
+      let result : List ℕ = take from o ++ (p ++ drop (length o - from) (drop from o)) in
+      let a : length (take at d) ≡ at = length-take-le at d (omega (arith, room)) in
+      let b : length (take at d ++ front) ≡ from = omega (arith, length-append (take at d) front, a, front-length) in
+      let o-is : o ≡ over (take at d ++ front) d = f ∙ sym (append-assoc (take at d) front (drop from d)) ∙ ap (λ (j : ℕ). (take at d ++ front) ++ drop j d) (sym b) in
+      let w : (take at d ++ front) ++ behind ≡ take at d ++ ended l = append-assoc (take at d) front behind ∙ ap (λ (y : List ℕ). take at d ++ y) again-line in
+      let v : length (take at d ++ ended l) ≡ at + length (ended l) = omega (arith, length-append (take at d) (ended l), a) in
+      let whole : result ≡ over (take at d ++ ended l) d
+      = part-written (take at d ++ front) behind d o-is (sym b) h ∙ ap (λ (y : List ℕ). over y d) w in
+      let long : length result ≡ length d = ap length whole ∙ length-over (take at d ++ ended l) d (omega (arith, v, room)) in
+      record {
+        count = omega (arith, g, again-length);
+        output = whole ∙ append-assoc (take at d) (ended l) (drop (length (take at d ++ ended l)) d) ∙ ap (λ (j : ℕ). take at d ++ (ended l ++ drop j d)) v;
+        measure = omega (arith, q, length-take (at + (r .finished + k) - 1 - at) (drop at result), length-drop at result, long, g, again-length, ended-length l, room);
+      }
