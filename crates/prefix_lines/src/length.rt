@@ -41,6 +41,7 @@ fn line_length(frame: Frame, table: &[u8], drawing: Drawing, line: Line) -> usiz
 
 // The length of a row's lines.
 fn lines_length(frame: Frame, table: &[u8], drawing: Drawing) -> usize
+    requires { ⌜ drawing .width ≤ columnLimit ⌝ }
     ensures { λ r. ⌜ r ≡ length (drawnLines frame (now (table .entry)) drawing) ⌝ }
 {
     let mut count: usize = 0;
