@@ -1,6 +1,6 @@
 -- Laws of the lines of a row in either frame, drawn from any table of glyphs.
 use mathlib.Core.Path.{_≡_, refl, sym, ap, _∙_}
-use mathlib.Core.Bool.{Bool, true, false, cond}
+use mathlib.Core.Bool.{Bool, true, false}
 use mathlib.Core.List.{List, [], _∷_, _++_, append-assoc, append-nil}
 use Prim.Native.Nat.{ℕ, suc, _+_, _*_, _-_, _<_, _≤_, zero-le}
 use native.Mathlib.Omega.{arith}
@@ -19,9 +19,9 @@ use Rattle.glyphs.specs.Tables.{glyphAt, numbersFrom, choicesIn, numbersIn, cel
 use Rattle.glyphs.specs.Row.{places}
 use Rattle.glyphs.proofs.PlaceLaws.{length-places}
 use Rattle.glyphs.proofs.TableLaws.{glyph-short}
-use Rattle.glyphs.proofs.WriteLaws.{cells-then}
+use Rattle.glyphs.proofs.WriteLaws.{cells-count, cells-then}
 use Rattle.slices.specs.Characters.{newline, colon}
-use Rattle.slices.specs.Joins.{joins, over}
+use Rattle.slices.specs.Joins.{over}
 use Rattle.slices.proofs.JoinLaws.{joins-short}
 use Rattle.slices.proofs.OverLaws.{over-one, part-room, part-length, part-written}
 use Rattle.prefix_lines.specs.declared.writer.Frame.{Frame}
@@ -156,14 +156,14 @@ module _ (f : Frame) (t : List ℕ) (d : Drawing) (l : Line) (out : List ℕ) (s
       drawn : WritesCells cells (length (closing f)) (take (length o - a) (drop a o)) p r
       drawn = rw (chosen, behind) at w
 
-      cells-count : r ≡ length cells
-      cells-count = drawn .count ∙ ap (λ (z : Bool). cond z (length cells) 0) (le-leb _ _ cells-fit)
+      counted : r ≡ length cells
+      counted = cells-count cells (length (closing f)) (take (length o - a) (drop a o)) p r drawn cells-fit
 
       cells-within : r ≤ length p
-      cells-within = omega (arith, cells-count, cells-fit, same)
+      cells-within = omega (arith, counted, cells-fit, same)
 
       pub end-fits : a + r + length (closing f) ≤ length out
-      end-fits = omega (arith, begun .0, cells-count, line-fits)
+      end-fits = omega (arith, begun .0, counted, line-fits)
 
       back-length : length (back o p a) ≡ length out
       back-length = part-length o p a same start-fits ∙ kept
@@ -178,7 +178,7 @@ module _ (f : Frame) (t : List ℕ) (d : Drawing) (l : Line) (out : List ℕ) (s
           → (c ≡ length (closing f)) × (q ≡ over (closing f) (take (length (back o p a) - (a + r)) (drop (a + r) (back o p a))))
           → (a + r + c ≡ length (drawnLine f t d l)) × (back (back o p a) q (a + r) ≡ over (drawnLine f t d l) out)
       line-done ended = (
-        omega (arith, begun .0, cells-count, ended .0, frame-parts f l, present-length f t d l shown),
+        omega (arith, begun .0, counted, ended .0, frame-parts f l, present-length f t d l shown),
         joined (opening f l) cells (closing f) out (begun .1) (begun .0) start-fits cells-within drawn cells-fit (ended .1)
         ∙ ap (λ (z : List ℕ). over z out) (sym (present f t d l shown)),
       )
