@@ -75,9 +75,9 @@ module _ (t : List ℕ) (q : Renderer) (mark : ℕ) where
   pub large-holds : q ≡ AsciiLarge → ((n : ℕ) → glyphAt t n ≡ getD (largeTable mark) n []) → Tables t (glyphsOf q) q mark
   large-holds e h = rw e h
 
-  pub box-holding : OneOf (2 ∷ 3 ∷ 4 ∷ []) (tagOf the-type q) → ((n : ℕ) → glyphAt t n ≡ getD (boxTable (glyphsOf q) mark) n [])
+  pub set-holds : OneOf (2 ∷ 3 ∷ 4 ∷ []) (tagOf the-type q) → ((n : ℕ) → glyphAt t n ≡ getD (boxTable (glyphsOf q) mark) n [])
       → Tables t (glyphsOf q) q mark
-  box-holding b h n = rw (box-holds (glyphsOf q) q mark b) (h n)
+  set-holds b h n = rw (box-holds (glyphsOf q) q mark b) (h n)
 
 -- ---- the two forms
 plain-bytes : (q : Renderer) (g : RowShape) (mark : ℕ) → framedBytes Plain q g mark ≡ linesBytes (glyphsOf q) q g mark

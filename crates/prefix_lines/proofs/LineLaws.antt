@@ -35,7 +35,7 @@ pub frame-small : (f : Frame) → frameLength f ≤ 4
 frame-small Plain = omega arith
 frame-small Listed = omega arith
 
-pub frame-parts : (f : Frame) (l : Line) → length (opening f l) + length (closing f) ≡ frameLength f
+frame-parts : (f : Frame) (l : Line) → length (opening f l) + length (closing f) ≡ frameLength f
 frame-parts Plain l = refl
 frame-parts Listed l = refl
 
@@ -75,11 +75,11 @@ module _ (f : Frame) (t : List ℕ) (d : Drawing) (l : Line) where
   absent e = rw e
 
   module _ (e : isPresent (d .renderer) (d .row) l ≡ true) where
-    pub present : drawnLine f t d l ≡ framed f l (cellsText t (numbersIn d l))
+    present : drawnLine f t d l ≡ framed f l (cellsText t (numbersIn d l))
     unfolding drawnLine
     present = rw e
 
-    pub present-length : length (drawnLine f t d l) ≡ length (cellsText t (numbersIn d l)) + frameLength f
+    present-length : length (drawnLine f t d l) ≡ length (cellsText t (numbersIn d l)) + frameLength f
     present-length = ap length present ∙ framed-length f l (cellsText t (numbersIn d l))
 
     -- counted: the cells, and what stands around them
@@ -180,7 +180,7 @@ module _ (f : Frame) (t : List ℕ) (d : Drawing) (l : Line) (out : List ℕ) (s
       line-done ended = (
         omega (arith, begun .0, counted, ended .0, frame-parts f l, present-length f t d l shown),
         joined (opening f l) cells (closing f) out (begun .1) (begun .0) start-fits cells-within drawn cells-fit (ended .1)
-        ∙ ap (λ (z : List ℕ). over z out) (sym (present f t d l shown)),
+            ∙ ap (λ (z : List ℕ). over z out) (sym (present f t d l shown)),
       )
 
 -- ---- how long a line can be: eight bytes for each cell, and what stands around them

@@ -5,10 +5,11 @@ use Prim.Native.Nat.{_≤_}
 use borrow.Author.Tests.{not-true, not-false}
 use Rattle.column.specs.Columns.{columnLimit}
 use Rattle.render.specs.Mark.{isMark}
-use Rattle.prefix_lines.proofs.CallLaws.{mark-refused, width-refused, drawn-answer, ascii-holds, large-holds, box-holding}
+use Rattle.prefix_lines.proofs.CallLaws.{mark-refused, width-refused, drawn-answer, ascii-holds, large-holds, set-holds}
 use borrow.Author.Needs.{needs}
 use Rattle.prefix_lines.proofs.write_shape.Statement.{statement}
 use Rattle.prefix_lines.proofs.write_shape.Tie as tie
+
 -- where the function began
 abbrev begin : tie.After-drawing-of → tie.Start
 begin d = d .before .before .before .before .before .before
@@ -108,7 +109,7 @@ returns-5 c =
     let at-table = at-write-with .before .before .before in
     let d = at-table .before .before in
     let a = begin d .args in
-    drawn-answer (a .frame) (a .shape) (a .renderer) (a .mark) (a .out .now) (marked d) (d .before .if2 .left) _ _ (d .drawing-of .ensures) (box-holding (at-table .box-table .result) (a .renderer) (a .mark) (at-table .before .match .keys3) (at-table .box-table .ensures)) (at-write-with .write-with3 .ensures)
+    drawn-answer (a .frame) (a .shape) (a .renderer) (a .mark) (a .out .now) (marked d) (d .before .if2 .left) _ _ (d .drawing-of .ensures) (set-holds (at-table .box-table .result) (a .renderer) (a .mark) (at-table .before .match .keys3) (at-table .box-table .ensures)) (at-write-with .write-with3 .ensures)
 
 pub write-shape-spec : {M : Type 1} → statement M
 write-shape-spec =
