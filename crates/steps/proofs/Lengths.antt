@@ -1,12 +1,12 @@
 -- How long lines are: a glyph, a line's cells, the rows of a text call, the lines of a listing.
-use Prim.Native.Nat.{ℕ, zero, suc, _+_, _*_, _-_, _≤_, max, zero-le}
+use Prim.Native.Nat.{ℕ, zero, suc, _+_, _*_, _≤_, max, zero-le}
 use mathlib.Core.Path.{_≡_, refl}
 use mathlib.Core.Bool.{Bool, true, false, cond, _&&_}
 use mathlib.Core.List.{List, [], _∷_, _++_, map, append-nil}
 use native.Mathlib.Nat.{mul-le-mul-left}
 use native.Mathlib.Omega.{arith}
 use lib.Dec.{ltb, leb, eqb, lit≤}
-use lib.ListN.{length, getD, take, replicate, length-append, length-take}
+use lib.ListN.{length, getD, replicate, length-append, length-take}
 use borrow.Author.Tests.{leb-true}
 use Rattle.column.specs.Columns.{columnLimit}
 use Rattle.render.specs.declared.types.Cell.{Cell}
