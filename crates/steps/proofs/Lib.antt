@@ -1,3 +1,4 @@
+pub mod FilePages
 pub mod LineBytes
 pub mod Lengths
 pub mod Room

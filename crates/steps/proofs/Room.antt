@@ -27,6 +27,8 @@ use Rattle.message.proofs.MessageLaws.{trim-length, lines-few}
 use Rattle.output.specs.declared.TextState.{TextState}
 use Rattle.output.specs.Output.{queueLimit, finish, ended, textOf, TextView, textViewOf, flushed}
 use Rattle.text.specs.Text.{textLines, textAfter, drawnChecks, textChecks, textAnswer, textWith, text}
+use Rattle.record.specs.Record.{messageRoom}
+use Rattle.steps.specs.Files.{pageRoom, listingRoom}
 use Rattle.steps.proofs.Lengths.{glyph-short, text-short, lines-within, listing-short}
 
 -- ---- the row call never gives 8
@@ -40,7 +42,7 @@ row-small : (v : View) (n : ℕ) (es : List Entry) → row v n es .refusal ≤ 4
 unfolding row
 row-small v n es = row-number v n es (place v n es) (tooMany es) (ltb columnLimit (length (place v n es .walked))) refl refl
 
--- ---- the page: a message of at most 82 bytes, and an output of 131072
+-- ---- the page: a record's message, and the page program's output
 numbers : (a b c z d : Bool) (r : ℕ) → eqb r 0 ≡ z → (z ≡ true → d ≡ false)
     → cond a markOutsideSpan (cond b messageTooLong (cond c messageByteNotWritable (cond (not z) r (cond d outputShorterThanLines notRefused))))
     ≡ cond a markOutsideSpan (cond b messageTooLong (cond c messageByteNotWritable (cond (not z) r notRefused)))
@@ -86,7 +88,7 @@ module _ (v : View) (t : TextView) (few : QueueShort t) (q : Renderer) (n : ℕ)
   abbrev lines : List (List ℕ)
   lines = textLines finish (glyphsOf q) t q (placed .shape) mark (linesOf m) (v .height)
 
-  module _ (h : v .height ≤ heightLimit) (k : length m ≤ 82) (o : 131072 ≤ length out) where
+  module _ (h : v .height ≤ heightLimit) (k : length m ≤ messageRoom) (o : pageRoom ≤ length out) where
     pub has-room : placed .refusal ≡ 0 → length (textOf lines) ≤ length out
     has-room e =
         let w : placed .shape .width ≤ columnLimit = row-fits v n es e in
@@ -111,6 +113,6 @@ module _ (v : View) (t : TextView) (few : QueueShort t) (q : Renderer) (n : ℕ)
         ∙ sym (number-told (refusal (textChecks mark m placed (textOf lines) out)) lines out v (placed .view) t (textAfter (glyphsOf q) q (placed .shape) mark (linesOf m) (v .height)))
         ∙ e)
 
--- ---- the listing: an output of 4096
-pub listing-has-room : (g : RowShape) (mark : ℕ) (out : List ℕ) → g .width ≤ columnLimit → 4096 ≤ length out → ltb (length out) (length (listingBytes g mark)) ≡ false
+-- ---- the listing
+pub listing-has-room : (g : RowShape) (mark : ℕ) (out : List ℕ) → g .width ≤ columnLimit → listingRoom ≤ length out → ltb (length out) (length (listingBytes g mark)) ≡ false
 listing-has-room g mark out w h = le-ltb (length out) (length (listingBytes g mark)) (omega (arith, listing-short g mark))
