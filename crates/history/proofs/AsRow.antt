@@ -12,9 +12,10 @@ use Rattle.render.specs.Mark.{isMark}
 use Rattle.render.specs.Refusals.{notRefused, markOutsideSpan, messageTooLong, messageByteNotWritable, outputShorterThanLines, refusal}
 use Rattle.shaper.specs.Shaper.{View}
 use Rattle.row_shape.specs.Row.{RowReply, row}
+use Rattle.glyphs.specs.Cells.{glyphsOf}
 use Rattle.message.specs.Message.{messageLimit, isWritable, allOf, linesOf}
-use Rattle.output.specs.Output.{textOf, TextView}
-use Rattle.text.specs.Text.{textLines, textAfter, textChecks, textAnswer, text}
+use Rattle.output.specs.Output.{finish, textOf, TextView}
+use Rattle.text.specs.Text.{textLines, textAfter, textChecks, textAnswer, textWith}
 use Rattle.history.specs.Ours.{TextArguments, textOn}
 
 -- where no check holds, the row's own refusal is none
@@ -34,16 +35,16 @@ module _ (v : View) (a : TextArguments) (n : ℕ) (es : List Entry) where
   called = row v n es
 
   abbrev lines : List (List ℕ)
-  lines = textLines (a .state) (a .renderer) (called .shape) (a .mark) (linesOf (a .message)) (v .height)
+  lines = textLines finish (glyphsOf (a .renderer)) (a .state) (a .renderer) (called .shape) (a .mark) (linesOf (a .message)) (v .height)
 
   abbrev end : TextView
-  end = textAfter (a .renderer) (called .shape) (a .mark) (linesOf (a .message)) (v .height)
+  end = textAfter (glyphsOf (a .renderer)) (a .renderer) (called .shape) (a .mark) (linesOf (a .message)) (v .height)
 
   abbrev number : ℕ
   number = refusal (textChecks (a .mark) (a .message) called (textOf lines) (a .output))
 
   number-is : textOn v a n es .refusal ≡ number
-  unfolding text
+  unfolding textWith
   number-is = number-told number lines (a .output) v (called .view) (a .state) end
 
   pub row-accepted : textOn v a n es .refusal ≡ 0 → called .refusal ≡ 0
@@ -52,9 +53,9 @@ module _ (v : View) (a : TextArguments) (n : ℕ) (es : List Entry) where
       (eqb (called .refusal) 0) (ltb (length (a .output)) (length (textOf lines))) (called .refusal) refl (sym number-is ∙ h)
 
   pub accepted-view : textOn v a n es .refusal ≡ 0 → textOn v a n es .view ≡ called .view
-  unfolding text
+  unfolding textWith
   accepted-view h = let e : number ≡ 0 = sym number-is ∙ h in rw e
 
   pub refused-view : (k : ℕ) → textOn v a n es .refusal ≡ suc k → textOn v a n es .view ≡ v
-  unfolding text
+  unfolding textWith
   refused-view k h = let e : number ≡ suc k = sym number-is ∙ h in rw e

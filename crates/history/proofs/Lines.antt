@@ -1,6 +1,6 @@
--- The head line and the foot line of every renderer show the pad lines that the shape gives: the five choose alike.
-use Prim.Native.Nat.{ℕ}
-use mathlib.Core.Path.{_≡_, refl, _∙_, ap}
+-- The head line and the foot line of every renderer show the pad lines that the shape gives: outside the link lines one choice is defined for all.
+use Prim.Native.Nat.{ℕ, suc}
+use mathlib.Core.Path.{_≡_, refl, _∙_, ap, ap₂}
 use mathlib.Core.Logic.{_≢_}
 use mathlib.Core.Bool.{Bool, true, false}
 use mathlib.Core.List.{List, [], _∷_, map}
@@ -8,14 +8,17 @@ use borrow.Author.Tests.{ne-eqb}
 use native.Mathlib.Omega.{arith}
 use Rattle.render.specs.declared.render.PadLine.{PadLine}
 use Rattle.render.specs.declared.render.PadLine.the-variants as pad
+use Rattle.render.specs.declared.types.Cell.{Cell}
 use Rattle.render.specs.declared.types.RowShape.{RowShape}
-use Rattle.render.specs.Lines.{preNodeLine, postAncestryLine}
+use Rattle.render.specs.Lines.{cellsOf, nodeToPad, footPad, preNodeLine, postAncestryLine}
 use Rattle.glyphs.specs.declared.Renderer.{Renderer}
+use Rattle.glyphs.specs.declared.types.Choice.{Choice}
 use Rattle.glyphs.specs.declared.types.Line.{Line}
 use Rattle.glyphs.specs.declared.types.Line.the-variants.{PreNode, Node, PostNode, Link, SecondLink, Term, SecondTerm, Ancestry, PostAncestry}
-use Rattle.glyphs.specs.Cells.{isPresent, keep, lineOf, lines}
-use Rattle.glyphs.specs.Row.{rowOf}
-use Rattle.glyphs.proofs.Alike.{stroke, pads-alike}
+use Rattle.glyphs.specs.declared.types.Place.{Place}
+use Rattle.glyphs.specs.Cells.{isPresent, keep, choiceOf, lineOf, lines}
+use Rattle.glyphs.specs.Choices.{padChoice}
+use Rattle.glyphs.specs.Row.{rowOf, places}
 use Rattle.prefix_lines.specs.PrefixLines.{letter}
 use Rattle.history.specs.Demand3.{Stroke, Blank, Dashed, Solid}
 use Rattle.history.specs.Ours.{strokeOf, lineOfKind, headLine, footLine}
@@ -49,14 +52,28 @@ foot-item q g =
     ∙ skip q g (letter PostAncestry) SecondTerm (Ancestry ∷ PostAncestry ∷ []) (λ z. omega (arith, z))
     ∙ skip q g (letter PostAncestry) Ancestry (PostAncestry ∷ []) (λ z. omega (arith, z))
 
-shown : (ps : List PadLine) → map strokeOf (map stroke ps) ≡ map padStroke ps
+-- a line in which each cell is given what its derived pad cell is given
+pads : (f : Place → Choice) (k : Cell → PadLine) → ((p : Place) → f p ≡ padChoice (k (p .cell))) → (i : ℕ) (cs : List Cell) → map f (places i cs) ≡ map padChoice (map k cs)
+pads f k h i [] = refl
+pads f k h i (c ∷ cs) = ap₂ _∷_ (h _) (pads f k h (suc i) cs)
+
+head-pads : (q : Renderer) (g : RowShape) → lineOf q g PreNode .choices ≡ map padChoice (preNodeLine g)
+unfolding choiceOf
+head-pads q g = pads (choiceOf q (rowOf g) PreNode) (λ (c : Cell). nodeToPad (g .«is_head») (c .node)) (λ p. refl) 0 (cellsOf g)
+
+foot-pads : (q : Renderer) (g : RowShape) → lineOf q g PostAncestry .choices ≡ map padChoice (postAncestryLine g)
+unfolding choiceOf
+foot-pads q g = pads (choiceOf q (rowOf g) PostAncestry) (λ (c : Cell). footPad (g .style .«dash_style») (c .ancestry)) (λ p. refl) 0 (cellsOf g)
+
+-- "A stroke in one is a cell for which the upright, solid or dashed, was chosen; a blank cell was given the space." (01)
+shown : (ps : List PadLine) → map strokeOf (map padChoice ps) ≡ map padStroke ps
 shown [] = refl
 shown (pad.Blank ∷ ps) = rw (shown ps)
 shown (pad.Ancestor ∷ ps) = rw (shown ps)
 shown (pad.Parent ∷ ps) = rw (shown ps)
 
 pub head-shows : (q : Renderer) (g : RowShape) → headLine q g ≡ map padStroke (preNodeLine g)
-head-shows q g = ap (map strokeOf) (head-item q g ∙ pads-alike q g .0) ∙ shown (preNodeLine g)
+head-shows q g = ap (map strokeOf) (head-item q g ∙ head-pads q g) ∙ shown (preNodeLine g)
 
 pub foot-shows : (q : Renderer) (g : RowShape) → footLine q g ≡ map padStroke (postAncestryLine g)
-foot-shows q g = ap (map strokeOf) (foot-item q g ∙ pads-alike q g .3) ∙ shown (postAncestryLine g)
+foot-shows q g = ap (map strokeOf) (foot-item q g ∙ foot-pads q g) ∙ shown (postAncestryLine g)

@@ -12,7 +12,7 @@ use Rattle.output.specs.declared.TextState.{TextState}
 use Rattle.output.specs.Output.{textViewOf}
 use Rattle.lineage.specs.declared.ShapeAnswer.{ShapeAnswer}
 use Rattle.lineage.specs.declared.LengthAnswer.{LengthAnswer}
-use Rattle.lineage.specs.Promises.{ancestors, Reserved, Rowed, Written}
+use Rattle.lineage.specs.Promises.{ancestors, LentReserves, LentRows, LentTexts}
 use Rattle.history.specs.Account.{Reserve, Row}
 use Rattle.history.specs.Demand3.{Machine}
 use Rattle.history.specs.Ours.{Item, Plain, Text, callOf, isRefusal, shapeOf, headLine, footLine}
@@ -50,9 +50,9 @@ number (TextRan a s′) = a .answer .refusal
 
 -- the call's contract, s the shaper at entry
 abbrev pub Met : Shaper → LentCall → Type 0
-Met s (ReserveRan n s′ r) = Reserved s n s′ r
-Met s (RowRan n l s′ r) = Rowed s n l s′ r
-Met s (TextRan a s′) = Written s (a .state) (a .renderer) (a .node) (a .entries) (a .mark) (a .message) (a .output) s′ (a .state′) (a .output′) (a .answer)
+Met s (ReserveRan n s′ r) = LentReserves s n s′ r
+Met s (RowRan n l s′ r) = LentRows s n l s′ r
+Met s (TextRan a s′) = LentTexts s (a .state) (a .renderer) (a .node) (a .entries) (a .mark) (a .message) (a .output) s′ (a .state′) (a .output′) (a .answer)
 
 -- "Each call .. gets the shaper as the call before left it, and nobody else writes to it meanwhile."
 abbrev pub Ran : Shaper → List LentCall → Type 0

@@ -2,7 +2,7 @@
 ghost use Prim.Native.Nat.{_≤_, min};
 ghost use mathlib.Core.Path.{_≡_};
 ghost use lib.ListN.{take};
-ghost use Rattle.lineage.specs.Promises.{Reserved, Rowed, Measured, Written};
+ghost use Rattle.lineage.specs.Promises.{LentReserves, LentRows, LentWidth, LentTexts};
 ghost use Rattle.lent.specs.Inner.{listLimit};
 use glyphs::Renderer;
 use output::TextState;
@@ -30,7 +30,7 @@ fn taken(count: usize) -> usize
 
 // The reserving call on a shaper of its own.
 pub fn reserve_on(mut shaper: Shaper, node: u32) -> Answer
-    ensures { λ r. ⌜ Reserved shaper node (r .shaper) (r .refusal) ⌝ }
+    ensures { λ r. ⌜ LentReserves shaper node (r .shaper) (r .refusal) ⌝ }
 {
     let refusal = lineage::reserve(&mut shaper, node);
     Answer { refusal, shaper }
@@ -39,7 +39,7 @@ pub fn reserve_on(mut shaper: Shaper, node: u32) -> Answer
 // The row call on a shaper of its own and the first entries of a list.
 fn row_with(mut shaper: Shaper, node: u32, list: [Entry; LIST_LIMIT], count: usize) -> RowAnswer
     requires { ⌜ count ≤ listLimit ⌝ }
-    ensures { λ r. ⌜ Rowed shaper node (take count list) (r .shaper) (record { refusal = r .refusal; shape = r .shape }) ⌝ }
+    ensures { λ r. ⌜ LentRows shaper node (take count list) (r .shaper) (record { refusal = r .refusal; shape = r .shape }) ⌝ }
 {
     let given = lineage::row(&mut shaper, node, &list[..count]);
     RowAnswer {
@@ -51,7 +51,7 @@ fn row_with(mut shaper: Shaper, node: u32, list: [Entry; LIST_LIMIT], count: usi
 
 // The row call on a shaper of its own and the first entries of a list, as many as it has at most.
 pub fn row_on(shaper: Shaper, node: u32, list: [Entry; LIST_LIMIT], count: usize) -> RowAnswer
-    ensures { λ r. ⌜ Rowed shaper node (take count list) (r .shaper) (record { refusal = r .refusal; shape = r .shape }) ⌝ }
+    ensures { λ r. ⌜ LentRows shaper node (take count list) (r .shaper) (record { refusal = r .refusal; shape = r .shape }) ⌝ }
 {
     row_with(shaper, node, list, taken(count))
 }
@@ -59,7 +59,7 @@ pub fn row_on(shaper: Shaper, node: u32, list: [Entry; LIST_LIMIT], count: usize
 // The width call on a shaper of its own and the first entries of a list.
 fn width_with(shaper: Shaper, node: NewNode, list: [Entry; LIST_LIMIT], count: usize) -> WidthAnswer
     requires { ⌜ count ≤ listLimit ⌝ }
-    ensures { λ r. ⌜ Measured shaper node (take count list) r ⌝ }
+    ensures { λ r. ⌜ LentWidth shaper node (take count list) r ⌝ }
 {
     lineage::width(&shaper, node, &list[..count])
 }
@@ -71,7 +71,7 @@ pub fn width_on(
     list: [Entry; LIST_LIMIT],
     count: usize,
 ) -> WidthAnswer
-    ensures { λ r. ⌜ Measured shaper node (take count list) r ⌝ }
+    ensures { λ r. ⌜ LentWidth shaper node (take count list) r ⌝ }
 {
     width_with(shaper, node, list, taken(count))
 }
@@ -89,7 +89,7 @@ fn text_with(
     out: &mut [u8],
 ) -> TextAnswer
     requires { ⌜ count ≤ listLimit ⌝ }
-    ensures { λ r. ⌜ Written shaper state renderer node (take count list) mark (now (message .entry)) (now (out .entry)) (r .shaper) (r .state) (now (out .exit)) (record { refusal = r .refusal; length = r .length; measure = r .measure }) ⌝ }
+    ensures { λ r. ⌜ LentTexts shaper state renderer node (take count list) mark (now (message .entry)) (now (out .entry)) (r .shaper) (r .state) (now (out .exit)) (record { refusal = r .refusal; length = r .length; measure = r .measure }) ⌝ }
 {
     let given = lineage::text(
         &mut shaper,
@@ -122,7 +122,7 @@ pub fn text_on(
     message: &[u8],
     out: &mut [u8],
 ) -> TextAnswer
-    ensures { λ r. ⌜ Written shaper state renderer node (take count list) mark (now (message .entry)) (now (out .entry)) (r .shaper) (r .state) (now (out .exit)) (record { refusal = r .refusal; length = r .length; measure = r .measure }) ⌝ }
+    ensures { λ r. ⌜ LentTexts shaper state renderer node (take count list) mark (now (message .entry)) (now (out .entry)) (r .shaper) (r .state) (now (out .exit)) (record { refusal = r .refusal; length = r .length; measure = r .measure }) ⌝ }
 {
     text_with(
         shaper,

@@ -19,12 +19,13 @@ use Rattle.width.specs.declared.WidthAnswer.{WidthAnswer}
 use Rattle.width.specs.Width.{width}
 use Rattle.width.specs.Promises.{Widths}
 use Rattle.glyphs.specs.declared.Renderer.{Renderer}
+use Rattle.glyphs.specs.Cells.{glyphsOf}
 use Rattle.output.specs.declared.TextState.{TextState}
-use Rattle.output.specs.Output.{TextView, textViewOf, textOf}
+use Rattle.output.specs.Output.{finish, TextView, textViewOf, textOf}
 use Rattle.text.specs.declared.graph_text_renderer.TextAnswer.{TextAnswer}
-use Rattle.text.specs.Text.{TextReply, textAnswer, textLines, textChecks, textAfter, text}
+use Rattle.text.specs.Text.{TextReply, textAnswer, textLines, textChecks, textAfter, textWith, text}
 use Rattle.text.specs.Promises.{Texts}
-use Rattle.lineage.specs.Promises.{ancestors, Copies, Rowed, Measured, Written}
+use Rattle.lineage.specs.Promises.{ancestors, Copies, LentRows, LentWidth, LentTexts}
 
 -- whatever is the same for all lists that are too long is the same for a list and the one that its copy stands for
 capped-same : {A : Type 0} (f : List Ancestor → A) → ((a b : List Ancestor) → tooMany a ≡ true → tooMany b ≡ true → f a ≡ f b)
@@ -43,7 +44,7 @@ row-many v n a b h k = rw (h, k)
 pub row-capped : (v : View) (n : ℕ) (es : List Ancestor) → row v n (capped es) ≡ row v n es
 row-capped v n = capped-same (row v n) (row-many v n)
 
-pub rowed : (s : Shaper) (n : ℕ) (l : List Entry) (es : Entries) (r : RowAnswer) → Copies l es → Rows s n es r → Rowed s n l (r .shaper) (record { refusal = r .refusal; shape = r .shape })
+pub rowed : (s : Shaper) (n : ℕ) (l : List Entry) (es : Entries) (r : RowAnswer) → Copies l es → Rows s n es r → LentRows s n l (r .shaper) (record { refusal = r .refusal; shape = r .shape })
 rowed s n l es r c h =
     record {
       reply = h .reply ∙ ap (row (viewOf s) n) c ∙ row-capped (viewOf s) n (ancestors l);
@@ -61,13 +62,13 @@ width-many v n a b h k = rw (h, k)
 pub width-capped : (v : View) (n : NewNode) (es : List Ancestor) → width v n (capped es) ≡ width v n es
 width-capped v n = capped-same (width v n) (width-many v n)
 
-pub measured : (s : Shaper) (n : NewNode) (l : List Entry) (es : Entries) (r : WidthAnswer) → Copies l es → Widths s n es r → Measured s n l r
+pub measured : (s : Shaper) (n : NewNode) (l : List Entry) (es : Entries) (r : WidthAnswer) → Copies l es → Widths s n es r → LentWidth s n l r
 measured s n l es r c h = h .reply ∙ ap (width (viewOf s) n) c ∙ width-capped (viewOf s) n (ancestors l)
 
 -- ---- text
 pub text-capped : (v : View) (t : TextView) (q : Renderer) (n : ℕ) (es : List Ancestor) (mark : ℕ) (message out : List ℕ)
     → text v t q n (capped es) mark message out ≡ text v t q n es mark message out
-unfolding text
+unfolding textWith
 text-capped v t q n es mark message out = rw (row-capped v n es)
 
 -- a refused answer leaves the output as it was
@@ -77,16 +78,16 @@ answer-kept (suc k) ls out v w t u h = refl
 
 text-kept : (v : View) (t : TextView) (q : Renderer) (n : ℕ) (es : List Ancestor) (mark : ℕ) (message out : List ℕ)
     → (text v t q n es mark message out .refusal ≡ 0 → ⊥) → text v t q n es mark message out .output ≡ out
-unfolding text
+unfolding textWith
 text-kept v t q n es mark message out h =
     let r : RowReply = row v n es in
     let ms : List (List ℕ) = linesOf message in
-    let ls : List (List ℕ) = textLines t q (r .shape) mark ms (v .height) in
-    answer-kept (refusal (textChecks mark message r (textOf ls) out)) ls out v (r .view) t (textAfter q (r .shape) mark ms (v .height)) h
+    let ls : List (List ℕ) = textLines finish (glyphsOf q) t q (r .shape) mark ms (v .height) in
+    answer-kept (refusal (textChecks mark message r (textOf ls) out)) ls out v (r .view) t (textAfter (glyphsOf q) q (r .shape) mark ms (v .height)) h
 
 pub written : (s : Shaper) (t : TextState) (q : Renderer) (n : ℕ) (l : List Entry) (es : Entries) (mark : ℕ) (message out out′ : List ℕ) (r : TextAnswer)
     → Copies l es → Texts s t q n es mark message out out′ r
-    → Written s t q n l mark message out (r .shaper) (r .state) out′ (record { refusal = r .refusal; length = r .length; measure = r .measure })
+    → LentTexts s t q n l mark message out (r .shaper) (r .state) out′ (record { refusal = r .refusal; length = r .length; measure = r .measure })
 written s t q n l es mark message out out′ r c h =
     record {
       reply =
@@ -101,5 +102,6 @@ written s t q n l es mark message out out′ r c h =
       );
       fits = h .fits;
       options = h .options;
+      queue = h .queue;
       rest = h .rest;
     }

@@ -1,6 +1,6 @@
 // The public calls: reserving, row, width and text in lent forms, each thin over its by-value core; the others are passed on as they are.
 ghost use Rattle.row_shape.specs.Promises.{Rows};
-ghost use Rattle.lineage.specs.Promises.{Copies, Reserved, Rowed, Measured, Written};
+ghost use Rattle.lineage.specs.Promises.{Copies, LentReserves, LentRows, LentWidth, LentTexts};
 use render::Entries;
 use row_shape::next_row_shape;
 use text::write_next_text;
@@ -60,7 +60,7 @@ pub struct LengthAnswer {
 
 // The reserving call on a lent shaper.
 pub fn reserve(shaper: &mut Shaper, node: u32) -> u8
-    ensures { λ r. ⌜ Reserved (now (shaper .entry)) node (now (shaper .exit)) r ⌝ }
+    ensures { λ r. ⌜ LentReserves (now (shaper .entry)) node (now (shaper .exit)) r ⌝ }
 {
     let given = shaper.reserve(node);
     *shaper = given.shaper;
@@ -100,7 +100,7 @@ fn row_core(shaper: Shaper, node: u32, entries: Entries) -> RowDone
 
 // The row call on a lent shaper and a lent list of parent entries.
 pub fn row(shaper: &mut Shaper, node: u32, entries: &[Entry]) -> ShapeAnswer
-    ensures { λ r. ⌜ Rowed (now (shaper .entry)) node (now (entries .entry)) (now (shaper .exit)) r ⌝ }
+    ensures { λ r. ⌜ LentRows (now (shaper .entry)) node (now (entries .entry)) (now (shaper .exit)) r ⌝ }
 {
     let copied = copy_entries(entries);
     let given = row_core(*shaper, node, copied);
@@ -110,7 +110,7 @@ pub fn row(shaper: &mut Shaper, node: u32, entries: &[Entry]) -> ShapeAnswer
 
 // The width call on a lent shaper and a lent list of parent entries.
 pub fn width(shaper: &Shaper, node: NewNode, entries: &[Entry]) -> WidthAnswer
-    ensures { λ r. ⌜ Measured (now (shaper .entry)) node (now (entries .entry)) r ⌝ }
+    ensures { λ r. ⌜ LentWidth (now (shaper .entry)) node (now (entries .entry)) r ⌝ }
 {
     let copied = copy_entries(entries);
     width::width(*shaper, node, copied)
@@ -127,7 +127,7 @@ pub fn text(
     message: &[u8],
     out: &mut [u8],
 ) -> LengthAnswer
-    ensures { λ r. ⌜ Written (now (shaper .entry)) (now (state .entry)) renderer node (now (entries .entry)) mark (now (message .entry)) (now (out .entry)) (now (shaper .exit)) (now (state .exit)) (now (out .exit)) r ⌝ }
+    ensures { λ r. ⌜ LentTexts (now (shaper .entry)) (now (state .entry)) renderer node (now (entries .entry)) mark (now (message .entry)) (now (out .entry)) (now (shaper .exit)) (now (state .exit)) (now (out .exit)) r ⌝ }
 {
     let copied = copy_entries(entries);
     let given = write_next_text(*shaper, *state, renderer, node, copied, mark, message, out);

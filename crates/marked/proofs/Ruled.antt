@@ -1,13 +1,13 @@
 -- What the definitions of the row call rule out (01, "What a contract here must settle", 2): a shaper refusing every row, one page for all histories,
 -- a row that leaves the columns untouched.
 use Prim.Native.Nat.{ℕ, zero, suc}
-use mathlib.Core.Path.{_≡_, refl, ap, subst}
+use mathlib.Core.Path.{_≡_, refl, sym, ap, subst, _∙_}
 use mathlib.Core.Logic.{_≢_}
 use mathlib.Core.Bool.{Bool, true, false}
 use mathlib.Core.List.{List, [], _∷_}
 use native.Mathlib.Omega.{arith}
 use lib.Dec.{ltb}
-use lib.ListN.{length}
+use lib.ListN.{length, drop}
 use Rattle.column.specs.declared.Column.{Column}
 use Rattle.column.specs.declared.Column.the-variants.{Empty}
 use Rattle.column.specs.declared.Found.{Found}
@@ -24,14 +24,14 @@ use Rattle.row_shape.specs.Row.{rowChecks, row}
 use Rattle.glyphs.specs.declared.Renderer.{Renderer}
 use Rattle.glyphs.specs.declared.Renderer.the-variants.{Ascii, AsciiLarge, Square, Curved, Dec}
 use Rattle.glyphs.specs.Cells.{choiceOf, bytesOf, glyphsOf}
-use Rattle.text.specs.Text.{text}
+use Rattle.text.specs.Text.{TextCall, drawnText}
+use Rattle.record.specs.Record.{nextRecord}
+use Rattle.steps.specs.Files.{pageOf}
+use Rattle.steps.specs.Steps.{programOptions}
+use Rattle.steps.proofs.FilePages.{page-is}
 use Rattle.marked.specs.Marked.{plain}
-use Rattle.marked.specs.Pages.{HistoryRow, newText, pageFrom}
+use Rattle.marked.specs.MarkedListing.{m1-mark, parent, m1-record}
 use Rattle.marked.proofs.Holding.{Holds, Where, away, there, findIs, named, row-holds}
-
--- a row without a message
-abbrev made : ℕ → List Entry → HistoryRow
-made n es = record { node = n; entries = es; message = [] }
 
 accepted-first : (v : View) (n : ℕ) → v .columns ≡ [] → v .previous ≡ Nothing → (b : Bool) → dense v ≡ b → row v n [] .refusal ≡ 0
 unfolding row place
@@ -53,14 +53,26 @@ new-accepts o n = go (ltb heightLimit (o .«min_row_height»)) refl
     go : (b : Bool) → ltb heightLimit (o .«min_row_height») ≡ b → row (newShaper o .view) n [] .refusal ≡ 0
     go b q = accepted-first (newShaper o .view) n (columns b q) (previous b q) (dense (newShaper o .view)) refl
 
--- two histories have different pages in every renderer: a build made from another directly, and indirectly
-pub pages-differ : (q : Renderer) → pageFrom plain newText q 0x6f 30 (made 5 (Parent 7 ∷ []) ∷ []) ≢ pageFrom plain newText q 0x6f 30 (made 5 (Ancestor 7 ∷ []) ∷ [])
-unfolding row place text choiceOf bytesOf glyphsOf
-pages-differ Ascii e = let z : _≡_ {A = ℕ} 2 4 = ap length e in omega (arith, z)
-pages-differ AsciiLarge e = let z : _≡_ {A = ℕ} 2 4 = ap length e in omega (arith, z)
-pages-differ Square e = let z : _≡_ {A = ℕ} 2 5 = ap length e in omega (arith, z)
-pages-differ Curved e = let z : _≡_ {A = ℕ} 2 6 = ap length e in omega (arith, z)
-pages-differ Dec e = let z : _≡_ {A = ℕ} 2 11 = ap length e in omega (arith, z)
+-- a history of one node with one entry, without a message
+abbrev one : Entry → List TextCall
+one e = record { node = 5; entries = e ∷ []; mark = m1-mark; message = [] } ∷ []
+
+-- two histories have different texts in every renderer: a build made from another directly, and indirectly
+pub texts-differ : (q : Renderer) → drawnText programOptions (glyphsOf q) q (one (Parent 7)) ≢ drawnText programOptions (glyphsOf q) q (one (Ancestor 7))
+unfolding row place choiceOf bytesOf glyphsOf
+texts-differ Ascii e = let z : _≡_ {A = ℕ} 2 4 = ap length e in omega (arith, z)
+texts-differ AsciiLarge e = let z : _≡_ {A = ℕ} 2 4 = ap length e in omega (arith, z)
+texts-differ Square e = let z : _≡_ {A = ℕ} 2 5 = ap length e in omega (arith, z)
+texts-differ Curved e = let z : _≡_ {A = ℕ} 2 6 = ap length e in omega (arith, z)
+texts-differ Dec e = let z : _≡_ {A = ℕ} 2 11 = ap length e in omega (arith, z)
+
+-- and so have two files of such a record different pages; an Ancestor entry differs in its kind alone
+abbrev ancestor : ℕ → List ℕ
+ancestor id = 1 ∷ drop 1 (parent id)
+
+pub pages-differ : pageOf (m1-record 5 1 (parent 7)) ≢ pageOf (m1-record 5 1 (ancestor 7))
+unfolding row place choiceOf bytesOf glyphsOf nextRecord
+pages-differ e = texts-differ Curved (sym (page-is (m1-record 5 1 (parent 7))) ∙ e ∙ page-is (m1-record 5 1 (ancestor 7)))
 
 -- two rows have different shapes: one parent and two parents of the same node on the same shaper
 pub shapes-differ : row plain 5 (Parent 7 ∷ []) .shape ≢ row plain 5 (Parent 7 ∷ Parent 8 ∷ []) .shape

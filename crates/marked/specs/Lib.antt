@@ -1,3 +1,2 @@
 pub mod Marked
 pub mod MarkedListing
-pub mod Pages

@@ -1,19 +1,18 @@
--- Document 01's marked rows M1: the whole listing, from the records' bytes to the bytes that are written, closed by computing.
-use Prim.Native.Nat.{ℕ, zero, suc, _-_}
+-- Document 01's marked rows M1: the whole listing, from the file's bytes to the bytes that are written, closed by computing.
+use Prim.Native.Nat.{ℕ, _-_}
 use Prim.Native.Char.{code}
 use Prim.Native.String.{String, [] as none, _∷_ as _then_}
 use mathlib.Core.Path.{_≡_, refl}
-use mathlib.Core.Bool.{cond}
 use mathlib.Core.List.{List, [], _∷_, _++_}
-use lib.ListN.{length, take, drop, replicate}
+use lib.ListN.{length, replicate}
 use Rattle.placing.specs.Placing.{place}
 use Rattle.row_shape.specs.Row.{row}
 use Rattle.glyphs.specs.Ascii.{standing, upright, connection}
 use Rattle.glyphs.specs.Cells.{choiceOf, glyphsOf, bytesOf}
 use Rattle.slices.specs.Characters.{newline}
 use Rattle.prefix_lines.specs.Listing.{listingBytes}
-use Rattle.record.specs.Record.{recordLength, nextRecord}
-use Rattle.steps.specs.Steps.{ProgressView, beginning, StepReply, listingStep}
+use Rattle.record.specs.Record.{nextRecord}
+use Rattle.steps.specs.Files.{listingOf}
 use Rattle.marked.specs.Marked.{Marked, marked}
 
 -- the bytes of a text, and of lines of text, each with its end
@@ -24,13 +23,6 @@ bytes (c then s) = code c ∷ bytes s
 abbrev pub page : List String → List ℕ
 page [] = []
 page (s ∷ ss) = bytes s ++ (newline ∷ page ss)
-
--- what the listing program writes in at most so many steps: "read records from standard input, one at a time" (01)
-abbrev pub listingFrom : ℕ → ProgressView → List ℕ → List ℕ → List ℕ
-listingFrom zero p file out = []
-listingFrom (suc k) p file out =
-    let s : StepReply = listingStep p (take recordLength file) out in
-    s .written ++ cond (s .goesOn) (listingFrom k (s .after) (drop recordLength file) out) []
 
 -- "mark `o`" (01)
 abbrev pub m1-mark : ℕ
@@ -67,9 +59,9 @@ m1-listing =
     ∷ "Z:  $"
     ∷ [])
 
--- four steps: three records, and the end
+-- what the listing program writes for the file
 abbrev pub M1 : Type 0
-M1 = listingFrom 4 beginning m1-file (replicate 1024 0) ≡ m1-listing
+M1 = listingOf m1-file ≡ m1-listing
 
 pub m1 : M1
 unfolding row place listingBytes choiceOf glyphsOf bytesOf standing upright connection nextRecord

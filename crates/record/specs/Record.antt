@@ -16,6 +16,11 @@ use Rattle.record.specs.declared.Outcome.the-variants.{Ready, Ended, Ref
 abbrev pub recordLength : ℕ
 recordLength = 128
 
+-- a file's bytes as they are read: so many pieces of a record's length, fewer bytes where fewer are left
+abbrev pub pieces : ℕ → List ℕ → List (List ℕ)
+pieces zero file = []
+pieces (suc k) file = take recordLength file ∷ pieces k (drop recordLength file)
+
 -- "id (0 to 3, low byte first)": the id that stands from a place on
 abbrev pub idAt : List ℕ → ℕ → ℕ
 idAt s i = getD s i 0 + 0x100 * getD s (i + 1) 0 + 0x10000 * getD s (i + 2) 0 + 0x1000000 * getD s (i + 3) 0

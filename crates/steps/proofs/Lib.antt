@@ -1,3 +1,5 @@
+pub mod FilePages
 pub mod LineBytes
+pub mod Lengths
 pub mod Room
 pub mod StepLaws

@@ -25,14 +25,15 @@ use Rattle.row_shape.proofs.RowFits.{row-fits}
 use Rattle.column.specs.Columns.{columnLimit}
 use Rattle.glyphs.specs.declared.Renderer.{Renderer}
 use Rattle.glyphs.specs.declared.Renderer.the-variants.{Curved}
+use Rattle.glyphs.specs.Cells.{glyphsOf}
 use Rattle.slices.specs.Joins.{over}
 use Rattle.prefix_lines.specs.declared.Written.{Written}
 use Rattle.prefix_lines.specs.PrefixLines.{Answer as LinesAnswer, answerOf, answered}
 use Rattle.prefix_lines.specs.Listing.{listingBytes, listing}
-use Rattle.output.specs.Output.{TextView, textViewOf, textOf}
+use Rattle.output.specs.Output.{TextView, newText, finish, textViewOf, textOf}
 use Rattle.text.specs.declared.graph_text_renderer.TextAnswer.{TextAnswer}
 use Rattle.message.specs.Message.{linesOf}
-use Rattle.text.specs.Text.{textLines, textAfter, textChecks, TextReply, textAnswer, text}
+use Rattle.text.specs.Text.{textLines, textAfter, textChecks, TextReply, textAnswer, textWith, text}
 use Rattle.text.specs.Promises.{textReplyOf, Texts}
 use Rattle.record.specs.declared.Record.{Record}
 use Rattle.record.specs.declared.Outcome.{Outcome}
@@ -52,7 +53,7 @@ pub begins : (a : Answer) → Fresh programOptions a → Begins (record { shaper
 begins a f =
     let z : a .refusal ≡ 0 = ap (λ (r : Reply). r .refusal) (f .reply) in
     record {
-      reply = ap (λ (r : Reply). record { view = r .view; text = record { queued = []; height = 0 }; number = 0 }) (f .reply);
+      reply = ap (λ (r : Reply). record { view = r .view; text = newText; number = 0 }) (f .reply);
       whole = ap (λ (s : Shaper). record { shaper = s; state = freshText; number = 0 }) (f .whole ∙ ap fresh (f .options z));
     }
 
@@ -65,10 +66,10 @@ module _ (v : View) (t : TextView) (q : Renderer) (n : ℕ) (es : List Entry) (m
   rowed = row v n es
 
   abbrev lines : List (List ℕ)
-  lines = textLines t q (rowed .shape) mark (linesOf message) (v .height)
+  lines = textLines finish (glyphsOf q) t q (rowed .shape) mark (linesOf message) (v .height)
 
   abbrev end : TextView
-  end = textAfter q (rowed .shape) mark (linesOf message) (v .height)
+  end = textAfter (glyphsOf q) q (rowed .shape) mark (linesOf message) (v .height)
 
   abbrev number : ℕ
   number = refusal (textChecks mark message rowed (textOf lines) out)
@@ -87,12 +88,12 @@ module _ (v : View) (t : TextView) (q : Renderer) (n : ℕ) (es : List Entry) (m
   answer-written (suc k) ls w u z = absurd (omega (arith, z))
 
   pub refused-output : (called .refusal ≡ 0 → ⊥) → called .output ≡ out
-  unfolding text
+  unfolding textWith
   refused-output z = answer-output number lines (rowed .view) end z
 
   pub accepted-output : called .refusal ≡ 0
       → (called .output ≡ over (take (called .length) (called .output)) out) × (called .length ≡ length (take (called .length) (called .output)))
-  unfolding text
+  unfolding textWith
   accepted-output z = answer-written number lines (rowed .view) end z
 
 -- ---- the page's row

@@ -1,3 +1,4 @@
 pub mod Steps
+pub mod Files
 pub mod Promises
 pub mod Inner

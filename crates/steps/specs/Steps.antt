@@ -14,7 +14,7 @@ use Rattle.row_shape.specs.Row.{RowReply, row}
 use Rattle.glyphs.specs.declared.Renderer.the-variants.{Curved}
 use Rattle.slices.specs.Characters.{newline}
 use Rattle.prefix_lines.specs.Listing.{listingBytes}
-use Rattle.output.specs.Output.{TextView}
+use Rattle.output.specs.Output.{TextView, newText}
 use Rattle.text.specs.Text.{TextReply, text}
 use Rattle.record.specs.declared.Outcome.{Outcome}
 use Rattle.record.specs.declared.Outcome.the-variants.{Ready, Ended, Refused}
@@ -70,7 +70,7 @@ programOptions =
 
 -- what a program begins with
 abbrev pub beginning : ProgressView
-beginning = record { view = newShaper programOptions .view; text = record { queued = []; height = 0 }; number = 0 }
+beginning = record { view = newShaper programOptions .view; text = newText; number = 0 }
 
 -- the next number; one at the top of its type stays
 abbrev pub next : ℕ → ℕ

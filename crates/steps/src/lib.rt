@@ -25,6 +25,7 @@ use render::Style;
 use render::is_mark;
 use row_shape::next_row_shape;
 use shaper::Shaper;
+use slices::write_bytes;
 use text::write_next_text;
 
 // The most decimal places of a number.
@@ -110,19 +111,6 @@ fn write_decimal(out: &mut [u8], n: u64, places: usize) -> usize
     let at = write_decimal(out, n / 10, places - 1);
     out[at] = digit(n % 10);
     at + 1
-}
-
-// Writes some bytes, and gives their count.
-fn write_bytes(out: &mut [u8], bytes: &[u8]) -> usize
-    requires { ⌜ length (now bytes) ≤ length (now out) ⌝ }
-    ensures { λ r. ⌜ (r ≡ length (now (bytes .entry))) × (now (out .exit) ≡ over (now (bytes .entry)) (now (out .entry))) ⌝ }
-{
-    let mut i: usize = 0;
-    while i < bytes.len() {
-        out[i] = bytes[i];
-        i += 1;
-    }
-    i
 }
 
 // Writes some words and a number behind them, and gives the count of their bytes.

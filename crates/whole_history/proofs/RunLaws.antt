@@ -8,8 +8,8 @@ use native.Mathlib.Numerals.{add-one}
 use native.Mathlib.Omega.{arith}
 use lib.ListN.{length, take, drop, length-drop, take-append-drop, drop-of-length-le}
 use lib.Seq.{take-all, drop-drop}
-use Rattle.record.specs.Record.{recordLength}
-use Rattle.whole_history.specs.Whole.{cut, recordsOf, State, placeAfter, Whole, rowsOf}
+use Rattle.record.specs.Record.{recordLength, pieces}
+use Rattle.whole_history.specs.Whole.{recordsOf, State, placeAfter, Whole, rowsOf}
 
 -- ---- a part of the output that was lent
 
@@ -29,10 +29,10 @@ part-same o at {p} e = part-back o p at ∙ ap (λ (x : List ℕ). take at o ++ 
 module _ (records : List ℕ) where
   -- those behind the first n
   abbrev pub left : ℕ → List (List ℕ)
-  left n = cut (length records / recordLength - n) (drop (recordLength * n) records)
+  left n = pieces (length records / recordLength - n) (drop (recordLength * n) records)
 
   pub left-first : left 0 ≡ recordsOf records
-  left-first = let e : length records / recordLength - 0 ≡ length records / recordLength = omega arith in ap (λ (k : ℕ). cut k records) e
+  left-first = let e : length records / recordLength - 0 ≡ length records / recordLength = omega arith in ap (λ (k : ℕ). pieces k records) e
 
   module _ (n : ℕ) where
     -- the next one
@@ -46,12 +46,12 @@ module _ (records : List ℕ) where
         let d : recordLength * n + recordLength ≡ recordLength * (n + 1) = omega arith in
         let r : drop recordLength (drop (recordLength * n) records) ≡ drop (recordLength * (n + 1)) records =
         drop-drop recordLength (recordLength * n) records ∙ ap (λ (j : ℕ). drop j records) d in
-        ap (λ (j : ℕ). cut j (drop (recordLength * n) records)) k
-        ∙ ap (λ (l : List ℕ). take recordLength (drop (recordLength * n) records) ∷ cut (length records / recordLength - (n + 1)) l) r
+        ap (λ (j : ℕ). pieces j (drop (recordLength * n) records)) k
+        ∙ ap (λ (l : List ℕ). take recordLength (drop (recordLength * n) records) ∷ pieces (length records / recordLength - (n + 1)) l) r
         ∙ ap (λ (j : ℕ). take j (drop (recordLength * n) records) ∷ left (n + 1)) z
 
     left-none : length records - recordLength * n < recordLength → left n ≡ []
-    left-none h = let k : length records / recordLength - n ≡ 0 = omega arith in ap (λ (j : ℕ). cut j (drop (recordLength * n) records)) k
+    left-none h = let k : length records / recordLength - n ≡ 0 = omega arith in ap (λ (j : ℕ). pieces j (drop (recordLength * n) records)) k
 
 -- ---- a turn of the loop, and its ends
 module _ (step : State → List ℕ → Option State) (records : List ℕ) (n : ℕ) (s : State) {w : Whole} (e : rowsOf step n (left records n) s ≡ w) where

@@ -5,7 +5,7 @@ use mathlib.Core.Bool.{Bool, true, false}
 use mathlib.Core.List.{List, [], _∷_, _++_, map, append-assoc, append-nil}
 use native.Mathlib.Numerals.{add-one}
 use native.Mathlib.Omega.{arith}
-use borrow.Author.Tests.{le-leb, lt-leb, leb-true, leb-false, ltb-true, ltb-false}
+use borrow.Author.Tests.{leb-true, leb-false, ltb-true, ltb-false}
 use lib.Dec.{ltb, leb}
 use lib.ListN.{length, getD, take, drop, length-append, length-map, length-take, drop-of-length-le}
 use lib.Seq.{take-all, take-suc, length-take-le, drop-append-add, drop-drop, drop-cons}
@@ -13,11 +13,10 @@ use Rattle.column.specs.Columns.{columnLimit}
 use Rattle.render.specs.declared.types.Cell.{Cell}
 use Rattle.render.proofs.types.Cell.{the-type}
 use Rattle.render.specs.declared.types.RowShape.{RowShape}
-use Rattle.slices.specs.Joins.{joins, over}
+use Rattle.slices.specs.Joins.{joins, over, Writes}
 use Rattle.slices.proofs.JoinLaws.{joins-append}
-use Rattle.slices.proofs.OverLaws.{part-written}
+use Rattle.slices.proofs.OverLaws.{part-written, writes-all, writes-none, wrote, part-room}
 use Rattle.whole_history.specs.Shapes.{cellBytes, headBytes, shapeBytes, nodeBytes}
-use Rattle.whole_history.specs.Inner.{PutIn}
 
 -- a shape's array has 64 cells
 pub cells-long : (l : List Cell) → length (map (the-type .to) l) ≡ columnLimit → length l ≡ columnLimit
@@ -51,9 +50,12 @@ abbrev pub upTo : RowShape → ℕ → List ℕ
 upTo g i = headBytes g ++ joins cellBytes (take i (g .cells))
 
 module _ (g : RowShape) where
-  pub cells-none : (d : List ℕ) {o bs : List ℕ} → bs ≡ headBytes g → o ≡ over bs d → o ≡ over (upTo g 0) o
-  cells-none d {o} b e =
-      let p : o ≡ over (headBytes g) d = e ∙ ap (λ (x : List ℕ). over x d) b in
+  head-written : (d : List ℕ) {o bs : List ℕ} {r : ℕ} → bs ≡ headBytes g → Writes bs d o r → 12 ≤ length d → o ≡ over (headBytes g) d
+  head-written d {o} {bs} {r} b w h = wrote bs d o r w (omega (arith, ap length b, head-length g)) ∙ ap (λ (x : List ℕ). over x d) b
+
+  pub cells-none : (d : List ℕ) {o bs : List ℕ} {r : ℕ} → bs ≡ headBytes g → Writes bs d o r → 12 ≤ length d → o ≡ over (upTo g 0) o
+  cells-none d {o} b w h =
+      let p : o ≡ over (headBytes g) d = head-written d b w h in
       p ∙ sym (over-more (headBytes g) [] d ∙ ap (λ (x : List ℕ). over x d) (append-nil (headBytes g))) ∙ ap (over (upTo g 0)) (sym p)
 
   module _ (long : length (g .cells) ≡ columnLimit) where
@@ -61,12 +63,13 @@ module _ (g : RowShape) where
     upTo-length i h =
         rw (length-append (headBytes g) (joins cellBytes (take i (g .cells))), head-length g, cells-length (take i (g .cells)), length-take-le i (g .cells) (omega arith)) refl
 
-    pub cells-next : (i : ℕ) (z : Cell) (d : List ℕ) {o p bs : List ℕ} → o ≡ over (upTo g i) d → i < columnLimit → bs ≡ cellBytes (getD (g .cells) i z)
-        → p ≡ over bs (take (length o - (12 + 8 * i)) (drop (12 + 8 * i) o))
+    pub cells-next : (i : ℕ) (z : Cell) (d : List ℕ) {o p bs : List ℕ} {r : ℕ} → o ≡ over (upTo g i) d → i < columnLimit → bs ≡ cellBytes (getD (g .cells) i z)
+        → Writes bs (take (length o - (12 + 8 * i)) (drop (12 + 8 * i) o)) p r → 12 + 8 * (i + 1) ≤ length o
         → take (12 + 8 * i) o ++ (p ++ drop (length o - (12 + 8 * i)) (drop (12 + 8 * i) o)) ≡ over (upTo g (i + 1)) d
-    cells-next i z d {o} {p} {bs} e h b w =
+    cells-next i z d {o} {p} {bs} {r} e h b w k =
         let n : 12 + 8 * i ≡ length (upTo g i) = sym (upTo-length i (omega arith)) in
-        part-written (upTo g i) bs d e n w ∙ ap (λ (x : List ℕ). over x d) next
+        let m : length bs ≤ length (take (length o - (12 + 8 * i)) (drop (12 + 8 * i) o)) = omega (arith, ap length b, cell-length (getD (g .cells) i z), part-room o (12 + 8 * i)) in
+        part-written (upTo g i) bs d e n (wrote bs (take (length o - (12 + 8 * i)) (drop (12 + 8 * i) o)) p r w m) ∙ ap (λ (x : List ℕ). over x d) next
       where
         next : upTo g i ++ bs ≡ upTo g (i + 1)
         next = rw b (append-assoc (headBytes g) (joins cellBytes (take i (g .cells))) (cellBytes (getD (g .cells) i z)) ∙ ap (λ (x : List ℕ). headBytes g ++ x) (sym one))
@@ -83,19 +86,16 @@ module _ (g : RowShape) where
           rw (length-append (headBytes g) (joins cellBytes (take (g .width) (g .cells))), head-length g, cells-length (take (g .width) (g .cells)), length-take (g .width) (g .cells))
           (omega arith)
 
-      pub no-room : (d : List ℕ) → length d < 12 + 8 * w → PutIn (shapeBytes g) d d 0
+      pub no-room : (d : List ℕ) → length d < 12 + 8 * w → Writes (shapeBytes g) d d 0
       no-room d h =
-          let l : length d < length (shapeBytes g) = omega (arith, shape-length) in
-          record { count = rw (lt-leb (length (shapeBytes g)) (length d) l) refl; output = rw (lt-leb (length (shapeBytes g)) (length d) l) refl }
+          writes-none (shapeBytes g) d d 0 (omega (arith, shape-length)) refl refl
 
-      pub shape-done : (i : ℕ) (d : List ℕ) {h o bs : List ℕ} → bs ≡ headBytes g → h ≡ over bs d → o ≡ over (upTo g i) h → i ≡ w → 12 + 8 * w ≤ length d
-          → PutIn (shapeBytes g) d o (12 + 8 * w)
+      pub shape-done : (i : ℕ) (d : List ℕ) {h o bs : List ℕ} {r : ℕ} → bs ≡ headBytes g → Writes bs d h r → o ≡ over (upTo g i) h → i ≡ w → 12 + 8 * w ≤ length d
+          → Writes (shapeBytes g) d o (12 + 8 * w)
       shape-done i d {h} {o} b e f k r =
-          let l : length (shapeBytes g) ≤ length d = omega (arith, shape-length) in
-          record {
-            count = rw (le-leb (length (shapeBytes g)) (length d) l) (sym shape-length);
-            output = rw (le-leb (length (shapeBytes g)) (length d) l) (f ∙ rw (e, b) (over-more (headBytes g) (joins cellBytes (take i (g .cells))) d) ∙ ap (λ (x : List Cell). over (headBytes g ++ joins cellBytes x) d) all);
-          }
+          let p : h ≡ over (headBytes g) d = head-written d b e (omega arith) in
+          writes-all (shapeBytes g) d o (12 + 8 * w) (omega (arith, shape-length)) (sym shape-length)
+          (f ∙ rw p (over-more (headBytes g) (joins cellBytes (take i (g .cells))) d) ∙ ap (λ (x : List Cell). over (headBytes g ++ joins cellBytes x) d) all)
         where
           all : take i (g .cells) ≡ take (g .width) (g .cells)
           all = go (ltb (g .width) columnLimit) refl
@@ -110,7 +110,7 @@ module _ (g : RowShape) where
                   take-all i (g .cells) (omega arith) ∙ sym (take-all (g .width) (g .cells) (omega arith))
 
 -- ---- bytes that were put, or were not
-module _ {bs before after : List ℕ} {r : ℕ} (p : PutIn bs before after r) where
+module _ {bs before after : List ℕ} {r : ℕ} (p : Writes bs before after r) where
   pub put-none : r ≡ 0 → 0 < length bs → (length before < length bs) × (after ≡ before)
   put-none e h = go (leb (length bs) (length before)) refl
     where

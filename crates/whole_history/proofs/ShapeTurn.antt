@@ -18,8 +18,8 @@ use Rattle.shaper.specs.Shaper.{viewOf}
 use Rattle.row_shape.specs.declared.RowAnswer.{RowAnswer}
 use Rattle.row_shape.specs.Row.{RowReply, row}
 use Rattle.row_shape.specs.Promises.{rowReplyOf, Rows}
-use Rattle.slices.specs.Joins.{over}
-use Rattle.slices.proofs.OverLaws.{length-over, part-room}
+use Rattle.slices.specs.Joins.{over, Writes}
+use Rattle.slices.proofs.OverLaws.{length-over, part-room, wrote}
 use Rattle.record.specs.Record.{recordLength, idAt}
 use Rattle.record.specs.Promises.{entriesWith}
 use Rattle.steps.specs.declared.Progress.{Progress}
@@ -27,7 +27,6 @@ use Rattle.steps.specs.Steps.{ProgressView, beginning}
 use Rattle.steps.specs.Promises.{progressViewOf}
 use Rattle.whole_history.specs.Shapes.{cellBytes, shapeBytes, nodeBytes}
 use Rattle.whole_history.specs.Whole.{entriesOf, State, placeAfter, rowsOf, shapeStep, wholeShapes}
-use Rattle.whole_history.specs.Inner.{PutIn}
 use Rattle.whole_history.proofs.RecordReads.{listed-read}
 use Rattle.whole_history.proofs.RunLaws.{place-kept, place-left, part-lent, part-back, part-same, left, left-first, recordAt, run-ends, run-goes, run-stops}
 use Rattle.whole_history.proofs.ShapeLaws.{cell-length, shape-some, put-none, put-done, node-cell, node-none}
@@ -125,7 +124,7 @@ module _ {records : List ℕ} {kept : Bool} {out₀ : List ℕ} where
             }
 
         -- the shapes are kept
-        module _ (t : kept ≡ true) {p : List ℕ} {r : ℕ} (w : PutIn (shapeBytes (g .shape)) lent p r) where
+        module _ (t : kept ≡ true) {p : List ℕ} {r : ℕ} (w : Writes (shapeBytes (g .shape)) lent p r) where
           bytes-kept : bytesOf kept (g .shape) ≡ shapeBytes (g .shape)
           bytes-kept = rw t refl
 
@@ -165,10 +164,11 @@ module _ {records : List ℕ} {kept : Bool} {out₀ : List ℕ} where
                 (omega (arith, part-room out from, cell-length (getD (g .shape .cells) (g .shape .«node_column») c)))
                 refl
 
-            pub node-goes : 8 ≤ length out - from → {bs p : List ℕ} → bs ≡ cellBytes (getD (g .shape .cells) (g .shape .«node_column») c) → p ≡ over bs lent
+            pub node-goes : 8 ≤ length out - from → {bs p : List ℕ} {r : ℕ} → bs ≡ cellBytes (getD (g .shape .cells) (g .shape .«node_column») c) → Writes bs lent p r
                 → ShapesLeft records kept out₀ (g .shaper) from (rows + 1) (take from out ++ (p ++ drop (length out - from) (drop from out)))
-            node-goes m {bs} {p} f w =
+            node-goes m {bs} {p} {r} f w =
                 let n : length bs ≡ 8 = ap length f ∙ cell-length (getD (g .shape .cells) (g .shape .«node_column») c) in
-                written bs (cell-is ∙ sym f) (omega (arith, part-room out from, n)) (part-back out p from ∙ ap (λ (x : List ℕ). take from out ++ x) w) from
+                let k : length bs ≤ length lent = omega (arith, part-room out from, n) in
+                written bs (cell-is ∙ sym f) k (part-back out p from ∙ ap (λ (x : List ℕ). take from out ++ x) (wrote bs lent p r w k)) from
                 (place-left kept from (length bs) t)
                 (omega arith)

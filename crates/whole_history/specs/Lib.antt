@@ -1,4 +1,3 @@
 -- What the contracts of the whole histories name.
 pub mod Shapes
 pub mod Whole
-pub mod Inner

@@ -1,5 +1,5 @@
 -- Whole histories, as bench runs them: the text call or the row call on every record, one after the other.
-use Prim.Native.Nat.{ℕ, zero, suc, _+_, _/_, min}
+use Prim.Native.Nat.{ℕ, suc, _+_, _/_, min}
 use mathlib.Core.Bool.{Bool, cond, _&&_}
 use mathlib.Core.List.{List, [], _∷_, _++_, map}
 use mathlib.Core.Option.{Option, none, some}
@@ -13,20 +13,15 @@ use Rattle.glyphs.specs.declared.Renderer.the-variants.{Ascii, AsciiLarge, Squa
 use Rattle.slices.specs.Joins.{over}
 use Rattle.output.specs.Output.{TextView}
 use Rattle.text.specs.Text.{TextReply, text}
-use Rattle.record.specs.Record.{recordLength, idAt, markOf, parentCount, parentLimit, writtenFrom, entryOf}
+use Rattle.record.specs.Record.{recordLength, pieces, idAt, markOf, parentCount, parentLimit, writtenFrom, entryOf}
 use Rattle.steps.specs.Steps.{beginning}
 use Rattle.whole_history.specs.Shapes.{shapeBytes, nodeBytes}
 
 -- ---- what is read
 
--- "Records of 128 bytes, no header" (01, "Added by us"): the first k of some bytes
-abbrev pub cut : ℕ → List ℕ → List (List ℕ)
-cut zero s = []
-cut (suc k) s = take recordLength s ∷ cut k (drop recordLength s)
-
 -- all whole records; bytes behind the last of them are left out
 abbrev pub recordsOf : List ℕ → List (List ℕ)
-recordsOf s = cut (length s / recordLength) s
+recordsOf s = pieces (length s / recordLength) s
 
 -- a record's parent entries (01, "Added by us"), where a count above 8 is read as 8 and a kind above 2 as 2
 abbrev pub entriesOf : List ℕ → List Entry

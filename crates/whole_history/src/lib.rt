@@ -1,13 +1,12 @@
 // Whole histories: the row call and the text call on every record of a history, for bench, which times them beside the Rust.
 ghost use mathlib.Core.Path.{_≡_};
-ghost use Prim.Native.Nat.{_+_, _≤_, _%_, min};
+ghost use Prim.Native.Nat.{_+_, _≤_, _%_};
 ghost use lib.ListN.{length};
-ghost use Rattle.slices.specs.Joins.{over};
+ghost use Rattle.slices.specs.Joins.{Writes};
 ghost use Rattle.record.specs.Record.{recordLength, idAt, entryOf};
 ghost use Rattle.record.specs.Promises.{entriesWith};
 ghost use Rattle.whole_history.specs.Shapes.{flag as flagOf, nodeNumber, padNumber, cellBytes, headBytes, shapeBytes};
 ghost use Rattle.whole_history.specs.Whole.{entriesOf, rendererOf, wholeText, wholeShapes};
-ghost use Rattle.whole_history.specs.Inner.{PutIn};
 use column::COLUMN_LIMIT;
 use glyphs::Renderer;
 use record::PARENT_LIMIT;
@@ -21,6 +20,8 @@ use render::NodeLine;
 use render::PadLine;
 use render::RowShape;
 use row_shape::next_row_shape;
+use slices::lesser;
+use slices::write_bytes;
 use text::write_next_text;
 
 // Where the mark, the parent count and the entries stand in a record.
@@ -67,19 +68,12 @@ fn ancestor(kind: u8, id: u32) -> Ancestor
     }
 }
 
-// A number; one above the most is read as the most.
-fn at_most(n: usize, most: usize) -> usize
-    ensures { λ r. ⌜ r ≡ min n most ⌝ }
-{
-    if most < n { most } else { n }
-}
-
 // The entries of a record.
 fn entries_of(bytes: &[u8]) -> Entries
     requires { ⌜ recordLength ≤ length (now bytes) ⌝ }
     ensures { λ r. ⌜ r ≡ entriesWith (entriesOf (now (bytes .entry))) ⌝ }
 {
-    let count = at_most(wide(bytes[COUNT_AT]) as usize, PARENT_LIMIT);
+    let count = lesser(wide(bytes[COUNT_AT]) as usize, PARENT_LIMIT);
     let none = Ancestor::Anonymous;
     let unused = Entry { ancestor: none };
     let mut list = [unused; ENTRY_LIMIT];
@@ -192,23 +186,11 @@ fn head_bytes(shape: RowShape) -> [u8; HEAD]
     ]
 }
 
-// Writes some bytes.
-fn write_bytes(out: &mut [u8], bytes: &[u8])
-    requires { ⌜ length (now bytes) ≤ length (now out) ⌝ }
-    ensures { λ r. ⌜ now (out .exit) ≡ over (now (bytes .entry)) (now (out .entry)) ⌝ }
-{
-    let mut i: usize = 0;
-    while i < bytes.len() {
-        out[i] = bytes[i];
-        i += 1;
-    }
-}
-
 // Writes a shape where there is room for it, the row's bytes and then each cell's, and gives their count; else writes nothing and gives 0.
 fn write_shape(out: &mut [u8], shape: RowShape) -> usize
-    ensures { λ r. ⌜ PutIn (shapeBytes shape) (now (out .entry)) (now (out .exit)) r ⌝ }
+    ensures { λ r. ⌜ Writes (shapeBytes shape) (now (out .entry)) (now (out .exit)) r ⌝ }
 {
-    let width = at_most(shape.width, COLUMN_LIMIT);
+    let width = lesser(shape.width, COLUMN_LIMIT);
     let size = HEAD + CELL * width;
     if out.len() < size {
         return 0;

@@ -38,7 +38,7 @@ use denote.Triple.Clauses.{Lasts, ensured, lasts}
 use denote.Exit.{yes}
 use Rattle.shaper.specs.declared.Shaper.{Shaper}
 use Rattle.shaper.specs.declared.Answer.{Answer}
-use Rattle.lineage.specs.Promises.{Reserved}
+use Rattle.lineage.specs.Promises.{LentReserves}
 use Rattle.shaper.proofs.Shaper as S
 use Rattle.shaper.proofs.Shaper.Laws as S′
 use Rattle.shaper.proofs.Answer as D
@@ -79,7 +79,7 @@ module _ {M : Type 1} (𝓤 : URA M) (H : Heap 𝓤) (A : Atoms 𝓤) (W : Given
   abbrev Post : Val → SProp 𝓤
   Post = walkOf 𝓤 H A self.ended stayed (self.clauses 𝓤 H A at-mem run) .post ((tt, tt, tt, (h, (n, tt)), at), tt)
 
-  exits : (c : ℕ) (h′ : Shaper) → c < 2 ^ 8 → IsS h′ → Reserved h n h′ c → ent 𝓤 (emp 𝓤) (Post (LL.val D.the-type D′.the-laws (made c h′)))
+  exits : (c : ℕ) (h′ : Shaper) → c < 2 ^ 8 → IsS h′ → LentReserves h n h′ c → ent 𝓤 (emp 𝓤) (Post (LL.val D.the-type D′.the-laws (made c h′)))
   exits c h′ fits is′ e =
       qed W [] ∵ suffices ! _ (ends-at 𝓤 H A self.ended stayed (self.clauses 𝓤 H A at-mem run) W ((tt, tt, tt, (h, (n, tt)), at), tt) (LL.val D.the-type D′.the-laws (made c h′)) (made c h′) (tt, (tt, tt)) (tt, (tt, tt))) $ says ! e $
       owned ! D.the-row (Is D.the-row) (LL.makes D.the-type D′.the-plain 𝓤 H A) (made c h′) _ (made-is c h′ fits is′) $ nothing ! $ owned ! u32 (Is u32) (uint-makes 𝓤 H A W w32) n _ (refl, n-fits) $ fjoin ! $
@@ -111,8 +111,8 @@ module _ {M : Type 1} (𝓤 : URA M) (H : Heap 𝓤) (A : Atoms 𝓤) (W : Given
         -- [pre; sLent; _6; _5; _4; _2; _1; _0; entry]: `lineage::reserve`
         calls-at ! fm (Lent 𝓤 H A at-mem run) known (to l₃ ν γ) (and-then ! (load ! (from ! (stop !)) (look ! 4 refl)) (and-then ! (load ! (from ! (stop !)) (look ! 9 refl)) (no-more !))) (λ v.
         use1 W (later (some (λ (r : ℕ). ((‵ (flft (ν ∷ []) fullShare) ⊛ ‵ ftrue) ⊛ ‵ (u8 .own r (v ∷ []))) ⊛ raw (ensured 𝓤 H A call.ended (call.clauses 𝓤 H A at-mem run) (ν ∷ [], tt) (at-local h l₃ γ, (n, tt)) tt r)))) (id⊢ 𝓤 _) $ await ! tt $ pick ! (λ r.
-        split ! $ move ! (1 ∷ []) $ use1 W (some (λ (us : Lasts call.ended (ν ∷ [], tt) (at-local h l₃ γ, (n, tt))). ‵ (lasts call.ended (ν ∷ [], tt) (at-local h l₃ γ, (n, tt)) us) ⊛ raw (fact 𝓤 (Reserved h n (us .0) r)))) (id⊢ 𝓤 _) $ pick ! (λ us.
-        split ! $ move ! (1 ∷ []) $ heard ! (Reserved h n (us .0) r) (λ e. fsplit ! $
+        split ! $ move ! (1 ∷ []) $ use1 W (some (λ (us : Lasts call.ended (ν ∷ [], tt) (at-local h l₃ γ, (n, tt))). ‵ (lasts call.ended (ν ∷ [], tt) (at-local h l₃ γ, (n, tt)) us) ⊛ raw (fact 𝓤 (LentReserves h n (us .0) r)))) (id⊢ 𝓤 _) $ pick ! (λ us.
+        split ! $ move ! (1 ∷ []) $ heard ! (LentReserves h n (us .0) r) (λ e. fsplit ! $
         -- [sLast; true0; given; sLent; _6; _5; _4; _2; _1; _0; entry]: the lifetime ends, and the shaper is back
         move ! (2 ∷ []) $ split ! $ split ! $
         move ! (0 ∷ []) $ lft-end ! tt $ move ! (0 ∷ 5 ∷ 3 ∷ []) $ use3 W (later (given (IsS (us .0)) (‵ (fat fullShare S′.mir l₃ 0 (val (us .0)))))) (local-back S.the-type S′.the-laws 𝓤 H A W (us .0) l₃ (ν ∷ []) γ) $ await ! tt $ learn ! (λ isS.

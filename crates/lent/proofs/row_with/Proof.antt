@@ -45,7 +45,7 @@ use Rattle.render.specs.declared.render.Entry.{Entry}
 use Rattle.shaper.specs.declared.Shaper.{Shaper}
 use Rattle.row_shape.specs.declared.RowAnswer.{RowAnswer}
 use Rattle.lineage.specs.declared.ShapeAnswer.{ShapeAnswer}
-use Rattle.lineage.specs.Promises.{Rowed}
+use Rattle.lineage.specs.Promises.{LentRows}
 use Rattle.shaper.proofs.Shaper as S
 use Rattle.shaper.proofs.Shaper.Laws as S′
 use Rattle.lineage.proofs.ShapeAnswer as N
@@ -101,7 +101,7 @@ module _ {M : Type 1} (𝓤 : URA M) (H : Heap 𝓤) (A : Atoms 𝓤) (W : Given
   abbrev Post : Val → SProp 𝓤
   Post = walkOf 𝓤 H A self.ended stayed (self.clauses 𝓤 H A at-mem run) .post ((tt, tt, tt, (h, (n, (xs, (c, tt)))), at), tt)
 
-  exits : (r : ShapeAnswer) (vs : List Val) (h′ : Shaper) → Is N.the-row r vs → IsS h′ → Rowed h n ys h′ r → ent 𝓤 (emp 𝓤) (Post (LL.val D.the-type D′.the-laws (made r h′)))
+  exits : (r : ShapeAnswer) (vs : List Val) (h′ : Shaper) → Is N.the-row r vs → IsS h′ → LentRows h n ys h′ r → ent 𝓤 (emp 𝓤) (Post (LL.val D.the-type D′.the-laws (made r h′)))
   exits r vs h′ isR is′ e =
       qed W [] ∵ suffices ! _ (ends-at 𝓤 H A self.ended stayed (self.clauses 𝓤 H A at-mem run) W ((tt, tt, tt, (h, (n, (xs, (c, tt)))), at), tt) (LL.val D.the-type D′.the-laws (made r h′)) (made r h′) (tt, (tt, (tt, (tt, tt)))) (tt, (tt, (tt, (tt, tt))))) $ says ! e $
       owned ! D.the-row (Is D.the-row) (LL.makes D.the-type D′.the-plain 𝓤 H A) (made r h′) _ (made-is r vs h′ isR is′) $
@@ -144,8 +144,8 @@ module _ {M : Type 1} (𝓤 : URA M) (H : Heap 𝓤) (A : Atoms 𝓤) (W : Given
         -- [pre; sLent; listLent; behind; _11; _10; _9; _8; _7; _4; _3; _2; _1; _0; entry]: `lineage::row`
         calls-at ! fm (Lent 𝓤 H A at-mem run) known (to l₅ ν γ l₆ μ δ) (and-then ! (load ! (from ! (stop !)) (look ! 10 refl)) (and-then ! (load ! (from ! (stop !)) (look ! 20 refl)) (and-then ! (load ! (from ! (stop !)) (look ! 6 refl)) (no-more !)))) (λ v.
         use1 W (later (some (λ (r : ShapeAnswer). ((‵ (flft (ν ∷ []) fullShare) ⊛ ‵ (flft (μ ∷ []) fullShare) ⊛ ‵ ftrue) ⊛ ‵ (N.the-row .own r (v ∷ []))) ⊛ raw (ensured 𝓤 H A call.ended (call.clauses 𝓤 H A at-mem run) (ν ∷ [], (μ ∷ [], tt)) (at-local h l₅ γ, (n, (at-local ys l₆ δ, tt))) tt r)))) (id⊢ 𝓤 _) $ await ! tt $ pick ! (λ r.
-        split ! $ move ! (1 ∷ []) $ use1 W (some (λ (us : Lasts call.ended (ν ∷ [], (μ ∷ [], tt)) (at-local h l₅ γ, (n, (at-local ys l₆ δ, tt)))). ‵ (lasts call.ended (ν ∷ [], (μ ∷ [], tt)) (at-local h l₅ γ, (n, (at-local ys l₆ δ, tt))) us) ⊛ raw (fact 𝓤 (Rowed h n ys (us .0) r)))) (id⊢ 𝓤 _) $ pick ! (λ us.
-        split ! $ move ! (1 ∷ []) $ heard ! (Rowed h n ys (us .0) r) (λ e. fsplit ! $
+        split ! $ move ! (1 ∷ []) $ use1 W (some (λ (us : Lasts call.ended (ν ∷ [], (μ ∷ [], tt)) (at-local h l₅ γ, (n, (at-local ys l₆ δ, tt)))). ‵ (lasts call.ended (ν ∷ [], (μ ∷ [], tt)) (at-local h l₅ γ, (n, (at-local ys l₆ δ, tt))) us) ⊛ raw (fact 𝓤 (LentRows h n ys (us .0) r)))) (id⊢ 𝓤 _) $ pick ! (λ us.
+        split ! $ move ! (1 ∷ []) $ heard ! (LentRows h n ys (us .0) r) (λ e. fsplit ! $
         -- [sLast; true0; given; sLent; listLent; behind; _11; _10; _9; _8; _7; _4; _3; _2; _1; _0; entry]: the lifetimes end, and the locals are back
         move ! (2 ∷ []) $ split ! $ split ! $ move ! (1 ∷ []) $ split ! $
         move ! (2 ∷ []) $ lft-end ! tt $ move ! (0 ∷ 6 ∷ 4 ∷ []) $ use3 W (later (given (IsS (us .0)) (‵ (fat fullShare S′.mir l₅ 0 (val (us .0)))))) (local-back S.the-type S′.the-laws 𝓤 H A W (us .0) l₅ (ν ∷ []) γ) $ await ! tt $ learn ! (λ isS′.

@@ -49,7 +49,7 @@ use Rattle.glyphs.specs.declared.Renderer.{Renderer}
 use Rattle.output.specs.declared.TextState.{TextState}
 use Rattle.text.specs.declared.graph_text_renderer.TextAnswer.{TextAnswer}
 use Rattle.lineage.specs.declared.LengthAnswer.{LengthAnswer}
-use Rattle.lineage.specs.Promises.{Written}
+use Rattle.lineage.specs.Promises.{LentTexts}
 use Rattle.glyphs.proofs.Renderer as G
 use Rattle.glyphs.proofs.Renderer.Laws as G′
 use Rattle.shaper.proofs.Shaper as S
@@ -130,7 +130,7 @@ module _ {M : Type 1} (𝓤 : URA M) (H : Heap 𝓤) (A : Atoms 𝓤) (W : Given
 
   -- what the call ensures, at an answer, the states after it and the last output
   abbrev Said : LengthAnswer → Shaper → TextState → List ℕ → Type 0
-  Said r h′ k′ us = Written h k g node ys n (m .now) (w .now) h′ k′ us r
+  Said r h′ k′ us = LentTexts h k g node ys n (m .now) (w .now) h′ k′ us r
 
   exits : (r : LengthAnswer) (vs : List Val) (h′ : Shaper) (k′ : TextState) (us : List ℕ) → Is N.the-row r vs → IsS h′ → IsX k′ → Said r h′ k′ us → length us ≡ length (w .now)
       → ent 𝓤 (⋆ 𝓤 H A ((‵ (flft κ₀ q₀) ⊛ ‵ (flft κ₁ q₁) ⊛ ‵ ftrue) ∷ ‵ (finally u8 (w .name) us) ∷ [])) (Post (LL.val D.the-type D′.the-laws (made r h′ k′)))

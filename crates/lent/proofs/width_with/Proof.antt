@@ -45,7 +45,7 @@ use Rattle.render.specs.declared.render.Entry.{Entry}
 use Rattle.shaper.specs.declared.Shaper.{Shaper}
 use Rattle.width.specs.declared.NewNode.{NewNode}
 use Rattle.width.specs.declared.WidthAnswer.{WidthAnswer}
-use Rattle.lineage.specs.Promises.{Measured}
+use Rattle.lineage.specs.Promises.{LentWidth}
 use Rattle.shaper.proofs.Shaper as S
 use Rattle.shaper.proofs.Shaper.Laws as S′
 use Rattle.width.proofs.NewNode as N
@@ -96,7 +96,7 @@ module _ {M : Type 1} (𝓤 : URA M) (H : Heap 𝓤) (A : Atoms 𝓤) (W : Given
   abbrev Post : Val → SProp 𝓤
   Post = walkOf 𝓤 H A self.ended stayed (self.clauses 𝓤 H A at-mem run) .post ((tt, tt, tt, (h, (n, (xs, (c, tt)))), at), tt)
 
-  exits : (r : WidthAnswer) (v : Val) → Measured h n ys r → ent 𝓤 (sem 𝓤 H A (D.the-row .own r (v ∷ []))) (Post v)
+  exits : (r : WidthAnswer) (v : Val) → LentWidth h n ys r → ent 𝓤 (sem 𝓤 H A (D.the-row .own r (v ∷ []))) (Post v)
   exits r v e =
       qed W (‵ (D.the-row .own r (v ∷ [])) ∷ []) ∵ suffices ! _ (ends-at 𝓤 H A self.ended stayed (self.clauses 𝓤 H A at-mem run) W ((tt, tt, tt, (h, (n, (xs, (c, tt)))), at), tt) v r (tt, (tt, (tt, (tt, tt)))) (tt, (tt, (tt, (tt, tt))))) $ says ! e $
       nothing ! $ nothing ! $ fjoin ! $ nothing ! $ fjoin ! $ nothing ! $ fjoin ! $ nothing ! $ fjoin ! $ nothing ! $ done !
@@ -121,8 +121,8 @@ module _ {M : Type 1} (𝓤 : URA M) (H : Heap 𝓤) (A : Atoms 𝓤) (W : Given
       nothing ! $ move ! (3 ∷ 0 ∷ []) $ fjoin ! $ owned ! N.the-row (Is N.the-row) (EL.makes N.the-type N′.the-plain 𝓤 H A) n _ isN $ fjoin ! $ move ! (2 ∷ 0 ∷ []) $ fjoin ! $ move ! (1 ∷ 0 ∷ []) $ join ! $ frame ! $ done !
 
   -- of what the call ensures the clause alone
-  said : (l ν : ℕ) (γ : GName) (m μ : ℕ) (δ : GName) (r : WidthAnswer) → ent 𝓤 (ensured 𝓤 H A call.ended (call.clauses 𝓤 H A at-mem run) (ν ∷ [], (μ ∷ [], tt)) (at-local h l γ, (n, (at-local ys m δ, tt))) tt r) (fact 𝓤 (Measured h n ys r))
-  said l ν γ m μ δ r = exE 𝓤 _ (λ us. snd∗ 𝓤 (sem 𝓤 H A (lasts call.ended (ν ∷ [], (μ ∷ [], tt)) (at-local h l γ, (n, (at-local ys m δ, tt))) us)) (fact 𝓤 (Measured h n ys r)))
+  said : (l ν : ℕ) (γ : GName) (m μ : ℕ) (δ : GName) (r : WidthAnswer) → ent 𝓤 (ensured 𝓤 H A call.ended (call.clauses 𝓤 H A at-mem run) (ν ∷ [], (μ ∷ [], tt)) (at-local h l γ, (n, (at-local ys m δ, tt))) tt r) (fact 𝓤 (LentWidth h n ys r))
+  said l ν γ m μ δ r = exE 𝓤 _ (λ us. snd∗ 𝓤 (sem 𝓤 H A (lasts call.ended (ν ∷ [], (μ ∷ [], tt)) (at-local h l γ, (n, (at-local ys m δ, tt))) us)) (fact 𝓤 (LentWidth h n ys r)))
 
   module _ (C : Calls 𝓤 H) (Λ : Loops 𝓤 H) (fm : FmC 𝓤 H (W .laws) C) (known : Triple 𝓤 (C #lineage·width) (Lent 𝓤 H A at-mem run)) where
     walk : ent 𝓤 (onEntry 𝓤 H A self.signature tt tt (h, (n, (xs, (c, tt)))) at) (WpFn 𝓤 H C Λ code.function args Post)
@@ -142,7 +142,7 @@ module _ {M : Type 1} (𝓤 : URA M) (H : Heap 𝓤) (A : Atoms 𝓤) (W : Given
         -- [pre; sLent; listLent; behind; _9; _8; _7; _4; _3; _2; _1; _0; entry]: `lineage::width`
         calls-at ! fm (Lent 𝓤 H A at-mem run) known (to l₅ ν γ l₆ μ δ) (and-then ! (load ! (from ! (stop !)) (look ! 8 refl)) (and-then ! (load ! (from ! (stop !)) (look ! 16 refl)) (and-then ! (load ! (from ! (stop !)) (look ! 4 refl)) (no-more !)))) (λ v.
         use1 W (later (some (λ (r : WidthAnswer). ((‵ (flft (ν ∷ []) fullShare) ⊛ ‵ (flft (μ ∷ []) fullShare) ⊛ ‵ ftrue) ⊛ ‵ (D.the-row .own r (v ∷ []))) ⊛ raw (ensured 𝓤 H A call.ended (call.clauses 𝓤 H A at-mem run) (ν ∷ [], (μ ∷ [], tt)) (at-local h l₅ γ, (n, (at-local ys l₆ δ, tt))) tt r)))) (id⊢ 𝓤 _) $ await ! tt $ pick ! (λ r.
-        split ! $ move ! (1 ∷ []) $ use1 W (raw (fact 𝓤 (Measured h n ys r))) (said l₅ ν γ l₆ μ δ r) $ heard ! (Measured h n ys r) (λ e.
+        split ! $ move ! (1 ∷ []) $ use1 W (raw (fact 𝓤 (LentWidth h n ys r))) (said l₅ ν γ l₆ μ δ r) $ heard ! (LentWidth h n ys r) (λ e.
         -- [given; sLent; listLent; behind; _9; _8; _7; _4; _3; _2; _1; _0; entry]: the lifetimes end, and the locals are back
         move ! (0 ∷ []) $ split ! $ split ! $ move ! (1 ∷ []) $ split ! $
         move ! (2 ∷ []) $ lft-end ! tt $ move ! (0 ∷ 4 ∷ []) $ lent-back ! tt $ use1 W (given (IsS h) (‵ (fat fullShare S′.mir l₅ 0 (val h)))) (lie-out S.the-type S′.the-laws 𝓤 H A W h l₅) $ learn ! (λ _.

@@ -45,7 +45,7 @@ use Rattle.row_shape.specs.declared.RowAnswer.{RowAnswer}
 use Rattle.row_shape.specs.Promises.{Rows}
 use Rattle.lineage.specs.declared.ShapeAnswer.{ShapeAnswer}
 use Rattle.lineage.specs.declared.RowDone.{RowDone}
-use Rattle.lineage.specs.Promises.{Copies, Rowed}
+use Rattle.lineage.specs.Promises.{Copies, LentRows}
 use Rattle.lineage.proofs.LentLaws.{rowed}
 use Rattle.lineage.proofs.WalkLaws.{opened, closed, answered, entered-by}
 use Rattle.lineage.proofs.Copied.{Copy, listVal, OwnList, copies, copy-cited}
@@ -127,7 +127,7 @@ module _ {M : Type 1} (𝓤 : URA M) (H : Heap 𝓤) (A : Atoms 𝓤) (W : Given
   asked c u is isC = qed W [] ∵ nothing ! $ owned ! K.the-row (Is K.the-row) (LL.makes K.the-type K′.the-plain 𝓤 H A) c (u ∷ []) isC $ fjoin ! $ owned ! u32 (Is u32) (uint-makes 𝓤 H A W w32) n _ (refl, n-fits) $ fjoin ! $
       owned ! S.the-row (Is S.the-row) (LL.makes S.the-type S′.the-plain 𝓤 H A) h (vals h) is $ fjoin ! $ nothing ! $ join ! $ frame ! $ done !
 
-  exits : (r : RowDone) → Rowed h n (y .now) (r .shaper) (r .answer) → Is N.the-row (r .answer) (nvals (r .answer))
+  exits : (r : RowDone) → LentRows h n (y .now) (r .shaper) (r .answer) → Is N.the-row (r .answer) (nvals (r .answer))
       → ent 𝓤 (⋆ 𝓤 H A (‵ (fobs γ (S.the-row .coded .code (r .shaper))) ∷ ‵ (fbor κ (Body (mem S.the-row) b o γ)) ∷ ‵ (flft κ q) ∷ (‵ (flft κ′ q′) ⊛ ‵ ftrue) ∷ ‵ Own ∷ [])) (Post (LL.val N.the-type N′.the-laws (r .answer)))
   exits r e is =
       qed W (‵ (fobs γ (S.the-row .coded .code (r .shaper))) ∷ ‵ (fbor κ (Body (mem S.the-row) b o γ)) ∷ ‵ (flft κ q) ∷ (‵ (flft κ′ q′) ⊛ ‵ ftrue) ∷ ‵ Own ∷ []) ∵

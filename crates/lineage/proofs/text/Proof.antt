@@ -48,7 +48,7 @@ use Rattle.output.specs.declared.TextState.{TextState}
 use Rattle.text.specs.declared.graph_text_renderer.TextAnswer.{TextAnswer}
 use Rattle.text.specs.Promises.{Texts}
 use Rattle.lineage.specs.declared.LengthAnswer.{LengthAnswer}
-use Rattle.lineage.specs.Promises.{Copies, Written}
+use Rattle.lineage.specs.Promises.{Copies, LentTexts}
 use Rattle.lineage.proofs.LentLaws.{written}
 use Rattle.lineage.proofs.WalkLaws.{opened, closed, entered-by}
 use Rattle.lineage.proofs.Copied.{Copy, listVal, OwnList, copies, copy-cited}
@@ -165,7 +165,7 @@ module _ {M : Type 1} (𝓤 : URA M) (H : Heap 𝓤) (A : Atoms 𝓤) (W : Given
   abbrev Said : Entries → TextAnswer → List ℕ → Type 0
   Said c r us = Texts (z .now) (t .now) g node c n (m .now) (w .now) us r
 
-  exits : (r : TextAnswer) (us : List ℕ) → Written (z .now) (t .now) g node (y .now) n (m .now) (w .now) (r .shaper) (r .state) us (answer r) → length us ≡ length (w .now) → Is N.the-row (answer r) (nvals (answer r))
+  exits : (r : TextAnswer) (us : List ℕ) → LentTexts (z .now) (t .now) g node (y .now) n (m .now) (w .now) (r .shaper) (r .state) us (answer r) → length us ≡ length (w .now) → Is N.the-row (answer r) (nvals (answer r))
       → ent 𝓤 (⋆ 𝓤 H A (‵ (fobs (z .name) (S.the-row .coded .code (r .shaper))) ∷ ‵ (fbor κ₀ (Body (mem S.the-row) (z .ptr .0) (z .ptr .1) (z .name))) ∷ ‵ (flft κ₀ q₀)
       ∷ ‵ (fobs (t .name) (X.the-row .coded .code (r .state))) ∷ ‵ (fbor κ₁ (Body (mem X.the-row) (t .ptr .0) (t .ptr .1) (t .name))) ∷ ‵ (flft κ₁ q₁)
       ∷ (‵ (flft κ₃ q₃) ⊛ ‵ (flft κ₄ q₄) ⊛ ‵ ftrue) ∷ ‵ (finally u8 (w .name) us) ∷ (‵ (flft κ₂ q₂) ⊛ ‵ ftrue) ∷ ‵ OwnY ∷ ‵ OwnM ∷ [])) (Post (LL.val N.the-type N′.the-laws (answer r)))

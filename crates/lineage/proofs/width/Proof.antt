@@ -41,7 +41,7 @@ use Rattle.shaper.specs.declared.Shaper.{Shaper}
 use Rattle.width.specs.declared.NewNode.{NewNode}
 use Rattle.width.specs.declared.WidthAnswer.{WidthAnswer}
 use Rattle.width.specs.Promises.{Widths}
-use Rattle.lineage.specs.Promises.{Measured}
+use Rattle.lineage.specs.Promises.{LentWidth}
 use Rattle.lineage.proofs.LentLaws.{measured}
 use Rattle.lineage.proofs.WalkLaws.{answered, entered-by}
 use Rattle.lineage.proofs.Copied.{Copy, listVal, OwnList, copies, copy-cited}
@@ -118,7 +118,7 @@ module _ {M : Type 1} (𝓤 : URA M) (H : Heap 𝓤) (A : Atoms 𝓤) (W : Given
   asked c u is isC = qed W [] ∵ nothing ! $ owned ! K.the-row (Is K.the-row) (LL.makes K.the-type K′.the-plain 𝓤 H A) c (u ∷ []) isC $ fjoin ! $ owned ! N.the-row (Is N.the-row) (EL.makes N.the-type N′.the-plain 𝓤 H A) n _ n-is $ fjoin ! $
       owned ! S.the-row (Is S.the-row) (LL.makes S.the-type S′.the-plain 𝓤 H A) h (vals h) is $ fjoin ! $ nothing ! $ join ! $ frame ! $ done !
 
-  exits : (r : WidthAnswer) (v : Val) → Measured h n (y .now) r
+  exits : (r : WidthAnswer) (v : Val) → LentWidth h n (y .now) r
       → ent 𝓤 (⋆ 𝓤 H A (‵ (R.the-row .own r (v ∷ [])) ∷ ‵ (flft κ q) ∷ ‵ Lent ∷ (‵ (flft κ′ q′) ⊛ ‵ ftrue) ∷ ‵ Own ∷ ‵ Res ∷ [])) (Post v)
   exits r v e =
       qed W (‵ (R.the-row .own r (v ∷ [])) ∷ ‵ (flft κ q) ∷ ‵ Lent ∷ (‵ (flft κ′ q′) ⊛ ‵ ftrue) ∷ ‵ Own ∷ ‵ Res ∷ []) ∵

@@ -23,11 +23,11 @@ shared-slice-read-wide c = search needs
 wide-requires : tie.Need-wide-requires Inv-loop μ-loop
 wide-requires c κs = search needs
 
-cast-at-most : tie.Need-cast-at-most Inv-loop μ-loop
-cast-at-most c = search needs
+cast-lesser : tie.Need-cast-lesser Inv-loop μ-loop
+cast-lesser c = search needs
 
-at-most-requires : tie.Need-at-most-requires Inv-loop μ-loop
-at-most-requires c κs = search needs
+lesser-requires : tie.Need-lesser-requires Inv-loop μ-loop
+lesser-requires c κs = search needs
 
 loop-holds : tie.Need-loop-holds Inv-loop μ-loop
 loop-holds c = (search needs, search needs, search needs, cc, refl)
@@ -80,8 +80,8 @@ entries-of-spec =
     μ-loop
     shared-slice-read-wide
     wide-requires
-    cast-at-most
-    at-most-requires
+    cast-lesser
+    lesser-requires
     loop-holds
     mul-at
     add-at

@@ -18,8 +18,8 @@ Inv-loop out₀ shape width size i₀ out i =
 abbrev μ-loop : tie.MeasureT-loop
 μ-loop out₀ shape width size i₀ out i = width - i
 
-at-most-requires : tie.Need-at-most-requires Inv-loop μ-loop
-at-most-requires c κs = search needs
+lesser-requires : tie.Need-lesser-requires Inv-loop μ-loop
+lesser-requires c κs = search needs
 
 mul-size : tie.Need-mul-size Inv-loop μ-loop
 mul-size c = search needs
@@ -31,7 +31,7 @@ returns : tie.Need-returns Inv-loop μ-loop
 returns c =
     let start = c .before .before .before in
     let long : length (start .args .t2 .cells) ≡ columnLimit = search (needs, cells-long) in
-    no-room (start .args .t2) long _ (c .before .at-most .ensures) _ (c .if1 .taken)
+    no-room (start .args .t2) long _ (c .before .lesser .ensures) _ (c .if1 .taken)
 
 head-bytes-requires : tie.Need-head-bytes-requires Inv-loop μ-loop
 head-bytes-requires c κs = search needs
@@ -47,7 +47,7 @@ loop-holds c =
     let long : length (c .before .before .before .before .before .before .before .before .before .args .t2 .cells) ≡ columnLimit = search (needs, cells-long) in
     let head = c .before .before in
     let begun = head .before .before .before in
-    (search needs, search needs, search needs, search needs, search needs, long, cells-none _ _ (begun .head-bytes .ensures) (head .write-bytes .ensures))
+    (search needs, search needs, search needs, search needs, search needs, long, cells-none _ _ (begun .head-bytes .ensures) (head .write-bytes .ensures) (search needs))
 
 mul-at : tie.Need-mul-at Inv-loop μ-loop
 mul-at c = search needs
@@ -96,7 +96,7 @@ loop-again c =
       search needs,
       part-length (l .out) (back .last .0) (12 + 8 * l .i) (back .kept .0) (omega arith) ∙ l .inv .4,
       l .inv .5,
-      cells-next _ (l .inv .5) (l .i) _ _ (l .inv .6) (omega arith) (turn .cell-bytes .ensures) (back .ensures),
+      cells-next _ (l .inv .5) (l .i) _ _ (l .inv .6) (omega arith) (turn .cell-bytes .ensures) (back .ensures) (omega (arith, l .inv .4)),
     )
 
 same-length : tie.Need-same-length Inv-loop μ-loop
@@ -115,7 +115,7 @@ write-shape-spec =
     (tie.spec
     Inv-loop
     μ-loop
-    at-most-requires
+    lesser-requires
     mul-size
     add-size
     returns
