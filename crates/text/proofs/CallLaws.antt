@@ -19,12 +19,13 @@ use Rattle.row_shape.specs.Row.{RowReply, row}
 use Rattle.row_shape.specs.Promises.{rowReplyOf, Rows}
 use Rattle.row_shape.proofs.RowFits.{row-fits}
 use Rattle.glyphs.specs.declared.Renderer.{Renderer}
+use Rattle.glyphs.specs.Cells.{glyphsOf}
 use Rattle.message.specs.Message.{messageLimit, isWritable, allOf, linesOf}
 use Rattle.output.specs.declared.TextState.{TextState}
-use Rattle.output.specs.Output.{textOf, TextView, textViewOf}
+use Rattle.output.specs.Output.{finish, textOf, TextView, textViewOf}
 use Rattle.text.specs.declared.graph_text_renderer.TextAnswer.{TextAnswer}
 use Rattle.text.specs.declared.prefix_lines_to_text.RowText.{RowText}
-use Rattle.text.specs.Text.{textLines, textAfter, textChecks, textAnswer, text}
+use Rattle.text.specs.Text.{textLines, textAfter, textChecks, textAnswer, textWith}
 use Rattle.text.specs.Promises.{textReplyOf, Texts}
 use Rattle.text.specs.Inner.{RowTexts}
 
@@ -39,7 +40,7 @@ module _ (s : Shaper) (t : TextState) (q : Renderer) (n : ℕ) (es : Entries) (m
   called = row (viewOf s) n (listed es)
 
   abbrev lines : List (List ℕ)
-  lines = textLines (textViewOf t) q (called .shape) mark (linesOf message) (viewOf s .height)
+  lines = textLines finish (glyphsOf q) (textViewOf t) q (called .shape) mark (linesOf message) (viewOf s .height)
 
   abbrev number : ℕ
   number = refusal (textChecks mark message called (textOf lines) out)
@@ -47,13 +48,14 @@ module _ (s : Shaper) (t : TextState) (q : Renderer) (n : ℕ) (es : Entries) (m
   -- a refusal leaves everything as it was
   refusing : (k : ℕ) (r : TextAnswer) → number ≡ suc k → r ≡ record { refusal = suc k; length = 0; measure = 0; shaper = s; state = t }
       → Texts s t q n es mark message out out r
-  unfolding text
+  unfolding textWith
   refusing k r e f =
       rw f (record {
         reply = rw e refl;
         refused = λ z. (refl, refl);
         fits = λ z. absurd (omega (arith, z));
         options = refl;
+        queue = λ z. absurd (omega (arith, z));
         rest = λ z. absurd (omega (arith, z));
       })
 
@@ -92,7 +94,7 @@ module _ (s : Shaper) (t : TextState) (q : Renderer) (n : ℕ) (es : Entries) (m
           shape-same = ap (λ (p : RowReply). p .shape) (u .reply)
 
           abbrev drawn : List (List ℕ)
-          drawn = textLines (textViewOf t) q (g .shape) mark (linesOf message) k
+          drawn = textLines finish (glyphsOf q) (textViewOf t) q (g .shape) mark (linesOf message) k
 
           drawn-same : drawn ≡ lines
           drawn-same = rw (shape-same, v) refl
@@ -112,14 +114,14 @@ module _ (s : Shaper) (t : TextState) (q : Renderer) (n : ℕ) (es : Entries) (m
           abbrev given : TextAnswer
           given = record { refusal = 0; length = x .length; measure = x .measure; shaper = g .shaper; state = x .state }
 
-          said : x .refusal ≡ 0 → (ls : List (List ℕ)) (a : View) (c : TextView) → drawn ≡ ls → viewOf (g .shaper) ≡ a → textAfter q (g .shape) mark (linesOf message) k ≡ c
+          said : x .refusal ≡ 0 → (ls : List (List ℕ)) (a : View) (c : TextView) → drawn ≡ ls → viewOf (g .shaper) ≡ a → textAfter (glyphsOf q) q (g .shape) mark (linesOf message) k ≡ c
               → textReplyOf given after ≡ textAnswer 0 ls out (viewOf s) a (textViewOf t) c
           said f ls a c d e i = let o = y .written f in rw (← d, ← e, ← i, o .0, o .1, o .2, o .3) refl
 
           pub accepted : (r : TextAnswer) → x .refusal ≡ 0 → r ≡ given → Texts s t q n es mark message out after r
-          unfolding text
+          unfolding textWith
           accepted r f e =
-              let end : TextView = textAfter q (called .shape) mark (linesOf message) (viewOf s .height) in
+              let end : TextView = textAfter (glyphsOf q) q (called .shape) mark (linesOf message) (viewOf s .height) in
               rw e (record {
                 reply =
                     said f lines (called .view) end drawn-same (ap (λ (p : RowReply). p .view) (u .reply)) (rw (shape-same, v) refl)
@@ -127,5 +129,6 @@ module _ (s : Shaper) (t : TextState) (q : Renderer) (n : ℕ) (es : Entries) (m
                 refused = λ d. absurd (d refl);
                 fits = λ d. u .fits z;
                 options = u .options;
+                queue = λ d. y .written f .4;
                 rest = λ d. u .rest z;
               })

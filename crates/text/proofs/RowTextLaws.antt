@@ -1,69 +1,69 @@
 -- Laws of a row's text: the lines that the code draws are those of the definition, and so is the text state after them.
-use mathlib.Core.Path.{_≡_, refl, sym, ap, ap₂, _∙_, fun-ext}
-use mathlib.Core.Bool.{Bool, true, false, cond, not, _&&_, _||_}
+use mathlib.Core.Path.{_≡_, refl, sym, ap, ap₂, _∙_}
+use mathlib.Core.Bool.{Bool, true, false, cond, not, _&&_}
 use mathlib.Core.List.{List, [], _∷_, _++_, map}
 use Prim.Native.Nat.{ℕ, suc, _+_, _-_, _*_, _<_, _≤_, max}
-use native.Mathlib.Nat.{zero-add}
+use native.Mathlib.Nat.{mul-le-mul}
 use native.Mathlib.Omega.{arith}
 use borrow.Author.Tests.{lt-ltb, le-ltb, le-leb, leb-true, leb-false}
 use lib.Dec.{eqb, leb, lit≤}
-use lib.ListN.{length, take, drop, replicate, length-append, length-map}
-use lib.Seq.{take-at, length-take-le}
+use lib.ListN.{length, take, drop, replicate, length-map, length-take, length-drop}
+use Rattle.slices.specs.Joins.{over}
+use Rattle.slices.proofs.JoinLaws.{joins-append}
+use Rattle.slices.proofs.OverLaws.{part-written}
 use Rattle.column.specs.Columns.{columnLimit}
+use Rattle.render.specs.declared.types.DashStyle.{DashStyle}
 use Rattle.render.specs.declared.types.LinkLinePlacement.{LinkLinePlacement}
 use Rattle.render.specs.declared.types.LinkLinePlacement.the-variants.{Top, Bottom}
 use Rattle.render.specs.declared.types.RowShape.{RowShape}
-use Rattle.render.specs.Lines.{cellsOf}
 use Rattle.render.specs.Refusals.{outputShorterThanLines}
 use Rattle.shaper.specs.Shaper.{heightLimit}
 use Rattle.glyphs.specs.declared.Renderer.{Renderer}
+use Rattle.glyphs.specs.declared.types.Choice.{Choice}
+use Rattle.glyphs.specs.declared.types.Drawing.{Drawing}
 use Rattle.glyphs.specs.declared.types.Line.{Line}
 use Rattle.glyphs.specs.declared.types.Line.the-variants.{PreNode, Node, PostNode, Link, SecondLink, Term, SecondTerm, Ancestry, PostAncestry}
 use Rattle.glyphs.specs.declared.types.Row.{Row}
-use Rattle.glyphs.specs.Cells.{allLines, isPresent, keep, choiceOf, PrefixLine, lineOf, lines, glyphsOf, bytesOf}
-use Rattle.glyphs.specs.Drawing.{entry, Draws, cellBytes, cellsText}
-use Rattle.slices.specs.Joins.{over}
-use Rattle.glyphs.specs.Row.{rowOf}
-use Rattle.glyphs.proofs.CellLaws.{joins-from}
-use Rattle.slices.proofs.JoinLaws.{joins-append}
-use Rattle.glyphs.proofs.TableLaws.{entry-short}
+use Rattle.glyphs.specs.Cells.{allLines, isPresent, keep, choiceOf, PrefixLine, lineOf, lines, glyphsOf}
+use Rattle.glyphs.specs.Row.{rowOf, drawingOf, places}
+use Rattle.glyphs.specs.Tables.{Tables, numbersFrom, numbersIn, choicesIn, cellsText, WritesCells}
+use Rattle.glyphs.proofs.PlaceLaws.{length-places}
+use Rattle.glyphs.proofs.TableLaws.{table-line}
 use Rattle.message.specs.Message.{linesOf, messageLimit}
 use Rattle.message.specs.Inner.{otherLines}
 use Rattle.message.proofs.MessageLaws.{lines-few}
 use Rattle.output.specs.declared.Put.{Put}
 use Rattle.output.specs.declared.TextState.{TextState}
-use Rattle.output.specs.Output.{queueLimit, ended, textOf, textViewOf, beginRow, Puts}
-use Rattle.output.proofs.PutLaws.{begin-short}
-use Rattle.text.specs.declared.prefix_lines_to_text.Drawn.{Drawn}
+use Rattle.output.specs.Output.{queueLimit, finish, ended, textOf, lineMeasure, TextView, textViewOf, beginRow, Puts}
+use Rattle.output.proofs.PutLaws.{measure-append, text-length, begin-short, put-count, put-bytes, put-measure}
 use Rattle.text.specs.declared.prefix_lines_to_text.Plan.{Plan}
 use Rattle.text.specs.declared.prefix_lines_to_text.RowText.{RowText}
-use Rattle.text.specs.Text.{isRepeatable, isBottom, times, needed, repeated, beside, prefix, rowLines, textAfter, textLines}
-use Rattle.text.specs.Inner.{prefixText, lineWith, drawn, spread, one, lineTimes, fixedLines, planOf, allPut, mostBytes, stateAfter, drawnOf, RowTexts}
-use Rattle.text.proofs.RepeatLaws.{drawn-beside, spread-length, map-append, map-times, short-map, drawn-short}
-use Rattle.text.proofs.TextLineLaws.{prefix-short}
+use Rattle.text.specs.Text.{isRepeatable, isBottom, times, needed, repeated, withMessages, prefix, rowLines, textAfter, textLines}
+use Rattle.text.specs.Inner.{lineWith, drawn, spread, one, lineTimes, fixedLines, planOf, prefixes, allLinesOf, mostBytes, waits, stateAfter, QueueFits, RowWith, RowTexts}
+use Rattle.text.proofs.RepeatLaws.{cells-short, drawn-messages, spread-length, map-append, map-times, short-map, drawn-short}
 
 -- ---- the text state after a row
-both-not : (a b c : Bool) → (not a || not b) ≡ c → (a && b) ≡ not c
-both-not true true c e = ap not e
-both-not true false c e = ap not e
-both-not false b c e = ap not e
+module _ (table : List ℕ) (d : Drawing) (p : Plan) (t : TextView) where
+  pub state-plain : waits (d .row) p ≡ false → t ≡ record { queued = []; height = p .fixed + p .needed } → t ≡ stateAfter table d p
+  state-plain e f = f ∙ rw e refl
 
-module _ (glyphs : ℕ → List ℕ) (d : Drawn) (p : Plan) (foot : ℕ) (q : foot ≡ cond (isBottom (p .placement)) 0 (p .needed)) where
-  waits : (c : Bool) → (not (d .row .«term_line») || not (eqb foot 0)) ≡ c → (d .row .«term_line» && eqb (cond (isBottom (p .placement)) 0 (p .needed)) 0) ≡ not c
-  waits c e = rw (← q) (both-not (d .row .«term_line») (eqb foot 0) c e)
+  pub state-queued : waits (d .row) p ≡ true → t ≡ record { queued = cellsText table (numbersIn d PostAncestry) ∷ []; height = p .fixed + p .needed } → t ≡ stateAfter table d p
+  state-queued e f = f ∙ rw e refl
 
-  pub state-plain : (l : List ℕ) → (not (d .row .«term_line») || not (eqb foot 0)) ≡ true
-      → textViewOf (record { «queued_pad_line» = l; «queued_length» = 0; «is_queued» = false; «row_height» = p .fixed + p .needed }) ≡ stateAfter glyphs d p
-  state-plain l e = rw (waits true e) refl
-
-  pub state-queued : (l o x : List ℕ) (n : ℕ) → (not (d .row .«term_line») || not (eqb foot 0)) ≡ false → n ≤ length x → take n x ≡ prefixText glyphs d PostAncestry
-      → o ≡ over (take (n - 0) (drop 0 x)) l
-      → textViewOf (record { «queued_pad_line» = o; «queued_length» = n; «is_queued» = true; «row_height» = p .fixed + p .needed }) ≡ stateAfter glyphs d p
-  state-queued l o x n e h f g =
-      let z : n - 0 ≡ n = omega arith in
-      let k : length (take n x) ≡ n = length-take-le n x h in
-      let s : take n o ≡ prefixText glyphs d PostAncestry = rw (rw z at g) (take-at (take n x) (drop (length (take n x)) l) n k) ∙ f in
-      rw (waits false e, s) refl
+-- the foot line's cells, written into the queue
+pub foot-queued : (table : List ℕ) (d : Drawing) (before after ns : List ℕ) (n height : ℕ) → length before ≡ queueLimit → length ns ≤ columnLimit
+    → ns ≡ numbersIn d PostAncestry → WritesCells (cellsText table ns) 0 before after n
+    → (textViewOf (record { «queued_pad_line» = after; «queued_length» = n; «is_queued» = true; «row_height» = height })
+    ≡ record { queued = cellsText table (numbersIn d PostAncestry) ∷ []; height = height })
+    × QueueFits (record { «queued_pad_line» = after; «queued_length» = n; «is_queued» = true; «row_height» = height })
+foot-queued table d before after ns n height long few e w =
+    let h : length (cellsText table ns) + 0 ≤ length before = omega (arith, cells-short table ns, long) in
+    let f = le-leb (length (cellsText table ns) + 0) (length before) h in
+    let k : n ≡ length (cellsText table ns) = rw f at (w .count) in
+    let b : take n after ≡ cellsText table ns = rw f at (w .bytes) in (
+      rw (b, e) refl,
+      (omega (arith, k, long), λ x. let z : _≡_ {A = ℕ} 0 1 = cc in absurd (omega (arith, z))),
+    )
 
 -- ---- which lines there are, and how often
 kept-count : {A B : Type 0} (t : B → Bool) (h : A → B) (b : A → Bool) (x : A) (xs : List A)
@@ -141,12 +141,9 @@ module _ (q : Renderer) (g : RowShape) where
   needed-same : (count height : ℕ) → needed q g count height ≡ planOf (g .style .«link_line_placement») q (rowOf g) count height .needed
   needed-same count height = ap (λ (n : ℕ). max count height - n) fixed-same
 
-  module _ (mark : ℕ) (table : List ℕ) (dr : Draws table q) where
-    pub prefix-same : (l : Line) → prefixText (entry table) (drawnOf g q mark) l ≡ prefix q g mark (lineOf q g l)
-    unfolding prefixText cellBytes
-    prefix-same l =
-        ap (λ (f : ℕ → List ℕ). cellsText f q (rowOf g) mark (cellsOf g) l) (fun-ext dr)
-        ∙ joins-from (bytesOf (glyphsOf q) q (g .style .«dash_style») mark) (choiceOf q (rowOf g) l) 0 (cellsOf g)
+  module _ (mark : ℕ) (table : List ℕ) (holds : Tables table (glyphsOf q) q mark) where
+    prefix-same : (l : Line) → cellsText table (numbersIn (drawingOf g q mark) l) ≡ prefix (glyphsOf q) q g mark (lineOf q g l)
+    prefix-same l = table-line table (glyphsOf q) (drawingOf g q mark) holds l
 
     module _ (m : List ℕ) (height : ℕ) where
       abbrev plan : Plan
@@ -159,22 +156,22 @@ module _ (q : Renderer) (g : RowShape) where
           (repeated-map (λ (l : PrefixLine). times (g .style .«link_line_placement») (plan .needed) (l .kind)) (lineOf q g) (keep (isPresent q (rowOf g)) allLines)
           ∙ ap (map (lineOf q g)) (spread-kept (λ (l : Line). times (g .style .«link_line_placement») (plan .needed) l) (isPresent q (rowOf g)) allLines))
 
-      pub rows-same : drawn (map (prefixText (entry table) (drawnOf g q mark)) (spread (lineTimes plan q (rowOf g)) allLines)) m ≡ rowLines q g mark (linesOf m) height
+      rows-same : drawn (prefixes table (drawingOf g q mark) plan) m ≡ rowLines finish (glyphsOf q) q g mark (linesOf m) height
       rows-same =
-          sym (ap (λ (ls : List PrefixLine). map (λ (x : PrefixLine × List ℕ). lineWith (prefix q g mark (x .0)) (x .1)) (beside ls (linesOf m))) shown-same
-          ∙ drawn-beside (prefix q g mark) (map (lineOf q g) (spread (lineTimes plan q (rowOf g)) allLines)) m
+          let f : Line → List ℕ = λ l. cellsText table (numbersIn (drawingOf g q mark) l) in
+          sym (ap (λ (ls : List PrefixLine). map (λ (x : PrefixLine × List ℕ). lineWith (prefix (glyphsOf q) q g mark (x .0)) (x .1)) (withMessages ls (linesOf m))) shown-same
+          ∙ drawn-messages (prefix (glyphsOf q) q g mark) (map (lineOf q g) (spread (lineTimes plan q (rowOf g)) allLines)) m
           ∙ ap (λ (ps : List (List ℕ)). drawn ps m)
-          (map-same (lineOf q g) (prefix q g mark) (prefixText (entry table) (drawnOf g q mark)) (λ l. sym (prefix-same l)) (spread (lineTimes plan q (rowOf g)) allLines)))
+          (map-same (lineOf q g) (prefix (glyphsOf q) q g mark) f (λ l. sym (prefix-same l)) (spread (lineTimes plan q (rowOf g)) allLines)))
 
-      pub height-same : length (rowLines q g mark (linesOf m) height) ≡ plan .fixed + plan .needed
+      height-same : length (rowLines finish (glyphsOf q) q g mark (linesOf m) height) ≡ plan .fixed + plan .needed
       height-same =
-          let ls : List Line = spread (lineTimes plan q (rowOf g)) allLines in
           ap length (sym rows-same)
-          ∙ length-drawn (map (prefixText (entry table) (drawnOf g q mark)) ls) m
-          ∙ length-map ls (prefixText (entry table) (drawnOf g q mark))
+          ∙ length-drawn (prefixes table (drawingOf g q mark) plan) m
+          ∙ length-map (spread (lineTimes plan q (rowOf g)) allLines) (λ (l : Line). cellsText table (numbersIn (drawingOf g q mark) l))
           ∙ spread-count q (rowOf g) (g .style .«link_line_placement») (plan .needed)
 
-      pub state-same : stateAfter (entry table) (drawnOf g q mark) plan ≡ textAfter q g mark (linesOf m) height
+      state-same : stateAfter table (drawingOf g q mark) plan ≡ textAfter (glyphsOf q) q g mark (linesOf m) height
       state-same =
           ap₂ (λ (x : List (List ℕ)) (n : ℕ). record { queued = x; height = n })
           (ap₂ (λ (n : ℕ) (x : List ℕ). cond (g .«term_line» && eqb (cond (isBottom (g .style .«link_line_placement»)) 0 n) 0) (x ∷ []) [])
@@ -186,82 +183,134 @@ one-small : (b : Bool) → one b ≤ 1
 one-small true = lit≤ tt
 one-small false = lit≤ tt
 
-pub fixed-small : (q : Renderer) (r : Row) → fixedLines q r ≤ 6
+fixed-small : (q : Renderer) (r : Row) → fixedLines q r ≤ 6
 fixed-small q r =
     omega (arith, one-small (isPresent q r Link), one-small (isPresent q r SecondLink), one-small (isPresent q r Term), one-small (isPresent q r SecondTerm), one-small (isPresent q r Ancestry))
 
-pub needed-small : (p : LinkLinePlacement) (q : Renderer) (r : Row) (m : List ℕ) (height : ℕ) → length m ≤ messageLimit → height ≤ heightLimit
+needed-small : (p : LinkLinePlacement) (q : Renderer) (r : Row) (m : List ℕ) (height : ℕ) → length m ≤ messageLimit → height ≤ heightLimit
     → planOf p q r (length (linesOf m)) height .needed ≤ 512
 needed-small p q r m height h k = omega (arith, lines-few m)
 
 -- ---- how long all lines can be
-module _ (table : List ℕ) (d : Drawn) (p : Plan) (m : List ℕ) (t : TextState) (b : Bool) (fixed : p .fixed ≡ fixedLines (d .renderer) (d .row)) (long : length (t .«queued_pad_line») ≡ queueLimit) where
-  abbrev all : List (List ℕ)
-  all = allPut (entry table) d p m (textViewOf t) b
+numbers-length : (q : Renderer) (d : DashStyle) (i : ℕ) (xs : List Choice) → length (numbersFrom q d i xs) ≡ length xs
+numbers-length q d i [] = refl
+numbers-length q d i (x ∷ xs) = ap suc (numbers-length q d (suc i) xs)
 
-  pub all-short : length (textOf all) ≤ mostBytes p (d .width) (length m)
-  all-short =
-      let ls : List Line = spread (lineTimes p (d .renderer) (d .row)) allLines in
-      let f : Line → List ℕ = prefixText (entry table) d in
-      let n : length (map f ls) ≡ p .fixed + p .needed = length-map ls f ∙ spread-count (d .renderer) (d .row) (p .placement) (p .needed) ∙ ap (λ (k : ℕ). k + p .needed) (sym fixed) in
-      let s = rw n at (drawn-short (8 * d .width) (map f ls) (short-map (8 * d .width) f (λ l. prefix-short (entry table) d l (entry-short table)) ls) m) in
-      rw (joins-append ended (beginRow b (textViewOf t)) (drawn (map f ls) m), length-append (textOf (beginRow b (textViewOf t))) (textOf (drawn (map f ls) m)))
-      (omega (arith, s, begin-short b t long))
+-- a prefix line has at most eight bytes for each cell
+prefix-short : (table : List ℕ) (d : Drawing) (l : Line) → length (cellsText table (numbersIn d l)) ≤ 8 * d .width
+prefix-short table d l =
+    let n = numbers-length (d .renderer) (d .row .«dash_style») 0 (choicesIn d l) in
+    let k = length-map (places 0 (take (d .width) (d .cells))) (choiceOf (d .renderer) (d .row) l) in
+    omega (arith, cells-short table (numbersIn d l), n, k, length-places 0 (take (d .width) (d .cells)), length-take (d .width) (d .cells))
 
-  -- an output that is longer has room for them
-  pub room-there : (n size : ℕ) → n ≡ mostBytes p (d .width) (length m) → n ≤ size → true ≡ leb (length (textOf all)) size
-  room-there n size e h = sym (le-leb (length (textOf all)) size (omega (arith, all-short, e)))
+-- a row's lines: of each the prefix line, a blank and the end, and the message once
+module _ (table : List ℕ) (d : Drawing) (p : Plan) (m : List ℕ) where
+  abbrev below : List (List ℕ)
+  below = drawn (prefixes table d p) m
+
+  module _ (fixed : p .fixed ≡ fixedLines (d .renderer) (d .row)) where
+    rows-short : length (textOf below) ≤ (p .fixed + p .needed) * (8 * d .width + 2) + length m
+    rows-short =
+        let ls : List Line = spread (lineTimes p (d .renderer) (d .row)) allLines in
+        let f : Line → List ℕ = λ l. cellsText table (numbersIn d l) in
+        let n : length (map f ls) ≡ p .fixed + p .needed = length-map ls f ∙ spread-count (d .renderer) (d .row) (p .placement) (p .needed) ∙ ap (λ (k : ℕ). k + p .needed) (sym fixed) in
+        rw n at (drawn-short (8 * d .width) (map f ls) (short-map (8 * d .width) f (prefix-short table d) ls) m)
+
+    pub below-short : d .width ≤ columnLimit → length m ≤ messageLimit → p .fixed ≤ 6 → p .needed ≤ messageLimit → length (textOf below) ≤ 518 * 514 + 512
+    below-short w k h n =
+        let i : p .fixed + p .needed ≤ 518 = omega arith in
+        let j : 8 * d .width + 2 ≤ 514 = omega arith in
+        omega (arith, rows-short, mul-le-mul i j)
+
+    -- with what stands above it: an output that is longer has room for all
+    module _ (t : TextState) (b : Bool) (long : length (t .«queued_pad_line») ≡ queueLimit) where
+      all-short : length (textOf (allLinesOf table d p m (textViewOf t) b)) ≤ mostBytes p (d .width) (length m)
+      all-short = omega (arith, text-length (beginRow finish b (textViewOf t)) below, rows-short, begin-short b t long)
+
+      pub room-there : (n size : ℕ) → n ≡ mostBytes p (d .width) (length m) → n ≤ size → true ≡ leb (length (textOf (allLinesOf table d p m (textViewOf t) b))) size
+      room-there n size e h = sym (le-leb (length (textOf (allLinesOf table d p m (textViewOf t) b))) size (omega (arith, all-short, e)))
+
+  -- else they were counted
+  pub room-counted : (t : TextView) (b : Bool) (k n size : ℕ) → k ≡ length (textOf (beginRow finish b t)) → n ≡ length (textOf below)
+      → leb (k + n) size ≡ leb (length (textOf (allLinesOf table d p m t b))) size
+  room-counted t b k n size e f = ap (λ (j : ℕ). leb j size) (ap₂ _+_ e f ∙ sym (text-length (beginRow finish b t) below))
 
 -- ---- written, or not for want of room
-pub empty-front : (l o : List ℕ) → length l ≡ 0 → l ++ o ≡ o
-empty-front [] o e = refl
-empty-front (x ∷ l) o e = absurd (omega (arith, e))
+module _ (table : List ℕ) (d : Drawing) (p : Plan) (m : List ℕ) (t : TextView) (b : Bool) (before : List ℕ) {fits : Bool}
+    (f : fits ≡ leb (length (textOf (allLinesOf table d p m t b))) (length before)) where
+  abbrev wanted : List (List ℕ)
+  wanted = allLinesOf table d p m t b
 
-module _ (t : TextState) (q : Renderer) (g : RowShape) (mark : ℕ) (m : List ℕ) (height : ℕ) (table : List ℕ) (dr : Draws table q)
-    (d : Drawn) (de : d ≡ drawnOf g q mark) (n : ℕ) (ne : n ≡ length (linesOf m)) (p : Plan) (pe : p ≡ planOf (g .style .«link_line_placement») q (d .row) n height) where
+  abbrev first : List (List ℕ)
+  first = beginRow finish b t
+
+  abbrev others : List (List ℕ)
+  others = drawn (prefixes table d p) m
+
+  pub no-room : (r : RowText) (after : List ℕ) → after ≡ before → fits ≡ false → r .refusal ≡ outputShorterThanLines → RowWith table d p m t b before after r
+  no-room r after same z e =
+      let k : length before < length (textOf wanted) = leb-false (length (textOf wanted)) (length before) (sym f ∙ z) in
+      record {
+        refusal = e ∙ rw (lt-ltb (length before) (length (textOf wanted)) k) refl;
+        kept = λ w. same;
+        written = λ w. absurd (omega (arith, e, w));
+      }
+
+  module _ (z : fits ≡ true) where
+    all-fit : length (textOf wanted) ≤ length before
+    all-fit = leb-true (length (textOf wanted)) (length before) (sym f ∙ z)
+
+    first-fit : length (textOf first) ≤ length before
+    first-fit = omega (arith, all-fit, text-length first others)
+
+    -- what stands above the row was written; the row's lines fit behind it
+    module _ (o : List ℕ) (a : Put) (w : Puts first before o a) (same : length o ≡ length before) where
+      pub above-within : a .length ≤ length o
+      above-within = omega (arith, put-count first before o a w first-fit, first-fit)
+
+      pub row-fits : length (textOf others) ≤ length (take (length o - a .length) (drop (a .length) o))
+      row-fits =
+          omega (arith, all-fit, text-length first others, put-count first before o a w first-fit, length-take (length o - a .length) (drop (a .length) o), length-drop (a .length) o)
+
+      pub room : (r : RowText) (u : List ℕ) (s : Put) → s .length ≡ length (textOf others) → s .measure ≡ lineMeasure others
+          → u ≡ over (textOf others) (take (length o - a .length) (drop (a .length) o))
+          → r .refusal ≡ 0 → r .length ≡ a .length + s .length → r .measure ≡ max (a .measure) (s .measure) → textViewOf (r .state) ≡ stateAfter table d p → QueueFits (r .state)
+          → RowWith table d p m t b before (take (a .length) o ++ (u ++ drop (length o - a .length) (drop (a .length) o))) r
+      room r u s n k v e c g i j =
+          let x = put-count first before o a w first-fit in
+          record {
+            refusal = e ∙ rw (le-ltb (length before) (length (textOf wanted)) all-fit) refl;
+            kept = λ y. absurd (y e);
+            written = λ y. (
+              c ∙ ap₂ _+_ x n ∙ sym (text-length first others),
+              g ∙ ap₂ max (put-measure first before o a w first-fit) k ∙ sym (measure-append first others),
+              part-written (textOf first) (textOf others) before (put-bytes first before o a w first-fit) x v ∙ ap (λ (l : List ℕ). over l before) (sym (joins-append ended first others)),
+              i,
+              j,
+            );
+          }
+
+-- ---- the same with the renderer's own glyphs
+module _ (t : TextState) (q : Renderer) (g : RowShape) (mark : ℕ) (m : List ℕ) (height : ℕ) (d : Drawing) (de : d ≡ drawingOf g q mark)
+    (n : ℕ) (ne : n ≡ length (linesOf m)) (p : Plan) (pe : p ≡ planOf (g .style .«link_line_placement») q (d .row) n height) where
   plan-is : p ≡ planOf (g .style .«link_line_placement») q (rowOf g) (length (linesOf m)) height
   plan-is = pe ∙ rw (de, ne) refl
 
   pub plan-small : g .width ≤ columnLimit → length m ≤ messageLimit → height ≤ heightLimit
-      → (d .width ≤ columnLimit) × (p .fixed ≤ 6) × (p .needed ≤ messageLimit) × (p .fixed ≡ fixedLines (d .renderer) (d .row))
+      → ((d .width ≤ columnLimit) × (length m ≤ messageLimit) × (p .fixed ≤ 6) × (p .needed ≤ messageLimit)) × (p .fixed ≡ fixedLines (d .renderer) (d .row))
   plan-small w h k = (
-    rw de w,
-    rw plan-is (fixed-small q (rowOf g)),
-    rw plan-is (needed-small (g .style .«link_line_placement») q (rowOf g) m height h k),
+    (rw de w, h, rw plan-is (fixed-small q (rowOf g)), rw plan-is (needed-small (g .style .«link_line_placement») q (rowOf g) m height h k)),
     rw (plan-is, de) refl,
   )
 
-  abbrev put : List (List ℕ)
-  put = allPut (entry table) d p m (textViewOf t) (g .«separator_line»)
-
-  put-same : put ≡ textLines (textViewOf t) q g mark (linesOf m) height
-  put-same = rw (plan-is, de) (ap (λ (x : List (List ℕ)). beginRow (g .«separator_line») (textViewOf t) ++ x) (rows-same q g mark table dr m height))
-
-  module _ (before : List ℕ) (r : RowText) {fits : Bool} (f : fits ≡ leb (length (textOf put)) (length before)) where
-    abbrev wanted : List (List ℕ)
-    wanted = textLines (textViewOf t) q g mark (linesOf m) height
-
-    pub no-room : (after : List ℕ) → after ≡ before → fits ≡ false → r .refusal ≡ outputShorterThanLines → RowTexts (textViewOf t) q g mark m height before after r
-    no-room after same z e =
-        let k : length before < length (textOf wanted) = rw put-same at (leb-false (length (textOf put)) (length before) (sym f ∙ z)) in
-        record {
-          refusal = e ∙ rw (lt-ltb (length before) (length (textOf wanted)) k) refl;
-          kept = λ w. same;
-          written = λ w. absurd (omega (arith, e, w));
-        }
-
-    pub room : (same after : List ℕ) (s : Put) → same ≡ before → fits ≡ true → Puts put 0 same after s
-        → r .refusal ≡ 0 → r .length ≡ s .length → r .measure ≡ s .measure → textViewOf (r .state) ≡ stateAfter (entry table) d p
-        → RowTexts (textViewOf t) q g mark m height before after r
-    room same after s u z v e a b w =
-        let k : length (textOf wanted) ≤ length before = rw put-same at (leb-true (length (textOf put)) (length before) (sym f ∙ z)) in
-        let x : Puts wanted 0 before after s = rw (put-same, u) at v in
-        let y : 0 + length (textOf wanted) ≤ length before = omega arith in
-        record {
-          refusal = e ∙ rw (le-ltb (length before) (length (textOf wanted)) k) refl;
-          kept = λ w. absurd (w e);
-          written = λ o. (a ∙ x .count, b ∙ x .measure y, x .bytes y ∙ from-zero (textOf wanted) before, w ∙ rw (plan-is, de) (state-same q g mark table dr m height));
-        }
-      where
-        from-zero : (bs o : List ℕ) → take 0 o ++ (bs ++ drop (0 + length bs) o) ≡ over bs o
-        from-zero bs o = rw (zero-add (length bs)) refl
+  pub texts : (table : List ℕ) → Tables table (glyphsOf q) q mark → (before after : List ℕ) (r : RowText)
+      → RowWith table d p m (textViewOf t) (g .«separator_line») before after r → RowTexts (textViewOf t) q g mark m height before after r
+  texts table holds before after r w =
+      let ls : allLinesOf table d p m (textViewOf t) (g .«separator_line») ≡ textLines finish (glyphsOf q) (textViewOf t) q g mark (linesOf m) height
+      = rw (plan-is, de) (ap (λ (x : List (List ℕ)). beginRow finish (g .«separator_line») (textViewOf t) ++ x) (rows-same q g mark table holds m height)) in
+      let s : stateAfter table d p ≡ textAfter (glyphsOf q) q g mark (linesOf m) height = rw (plan-is, de) (state-same q g mark table holds m height) in
+      record {
+        refusal = rw ls at (w .refusal);
+        kept = w .kept;
+        written = λ y. rw (ls, s) at (w .written y);
+      }

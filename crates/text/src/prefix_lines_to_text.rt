@@ -161,7 +161,12 @@ fn times(plan: Plan, renderer: Renderer, row: Row, line: Line) -> usize
 }
 
 // Chooses the glyphs of a line that is written so often, and gives how many cells it has.
-fn choose_line(numbers: &mut [u8], drawing: Drawing, line: Line, times: usize) -> usize
+fn choose_line(
+    numbers: &mut [u8],
+    drawing: Drawing,
+    line: Line,
+    times: usize,
+) -> usize
     requires { ⌜ length (now numbers) ≡ columnLimit ⌝ }
     ensures { λ r. ⌜ (0 < times → firstCells r (now (numbers .exit)) ≡ numbersIn drawing line) ⌝ }
 {
@@ -173,7 +178,7 @@ fn choose_line(numbers: &mut [u8], drawing: Drawing, line: Line, times: usize) -
 
 // The length of a prefix line written so many times, each time with the next message line.
 fn repeated_length(lengths: Lengths, times: usize, message: &[u8], start: usize) -> Counted
-    requires { ⌜ (lengths .all ≤ queueLimit) × (lengths .finished ≤ queueLimit) × (length (now message) ≤ messageLimit) × (start ≤ length (now message)) × (times ≤ messageLimit) ⌝ }
+    requires { ⌜ (lengths .all ≤ queueLimit) × (lengths .finished ≤ lengths .all) × (length (now message) ≤ messageLimit) × (start ≤ length (now message)) × (times ≤ messageLimit) ⌝ }
     ensures { λ r. ⌜ ((prefix : List ℕ) → Measured prefix lengths → Counts (replicate times prefix) (now (message .entry)) start r) ⌝ }
 {
     let mut length: usize = 0;

@@ -10,11 +10,17 @@ fixed-lines-requires c κs = search needs
 greater-requires : tie.Need-greater-requires
 greater-requires c κs = search needs
 
-missing-requires : tie.Need-missing-requires
-missing-requires c κs = search needs
+difference-requires : tie.Need-difference-requires
+difference-requires c κs = search needs
 
 returns : tie.Need-returns
-returns c = rw (c .missing .ensures, c .before .greater .ensures, c .before .before .fixed-lines .ensures) refl
+returns c = rw (c .difference .ensures, c .before .greater .ensures, c .before .before .fixed-lines .ensures) refl
 
 pub plan-of-spec : {M : Type 1} → statement M
-plan-of-spec = tie.close (tie.spec fixed-lines-requires greater-requires missing-requires returns)
+plan-of-spec =
+    tie.close
+    (tie.spec
+    fixed-lines-requires
+    greater-requires
+    difference-requires
+    returns)

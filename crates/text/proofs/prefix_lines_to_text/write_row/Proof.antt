@@ -1,0 +1,159 @@
+-- Writes a row's lines with its message, the glyphs of each chosen once.
+use mathlib.Core.Path.{_≡_, refl, ap}
+use mathlib.Core.List.{List, map}
+use Prim.Native.Nat.{ℕ, _+_, _-_, _<_, _≤_, zero-le}
+use native.Mathlib.Omega.{arith}
+use lib.ListN.{length, take, drop, replicate}
+use Rattle.glyphs.specs.declared.types.Line.{Line}
+use Rattle.glyphs.specs.declared.types.Line.the-variants.{PostAncestry}
+use Rattle.glyphs.specs.Cells.{allLines}
+use Rattle.glyphs.specs.Tables.{numbersIn, cellsText}
+use Rattle.output.specs.Output.{textOf}
+use Rattle.text.specs.Inner.{drawn, spread, lineTimes}
+use Rattle.text.proofs.RepeatLaws.{Writing, row-none, plan-short, next-fits, next-written}
+use borrow.Author.Needs.{needs}
+use Rattle.text.proofs.prefix_lines_to_text.write_row.Statement.{statement}
+use Rattle.text.proofs.prefix_lines_to_text.write_row.Tie as tie
+
+abbrev Inv-loop : tie.InvT-loop
+Inv-loop out₀ table drawing plan message renderer row numbers₀ length₀ measure₀ next₀ k₀ out numbers length measure next k =
+    (k ≤ 9)
+    × Writing message 0 out₀ (map (λ (l : Line). cellsText table (numbersIn drawing l)) (spread (lineTimes plan renderer row) (take k allLines))) out
+    (record { length = length; measure = measure; next = next })
+
+abbrev μ-loop : tie.MeasureT-loop
+μ-loop out₀ table drawing plan message renderer row numbers₀ length₀ measure₀ next₀ k₀ out numbers length measure next k = 9 - k
+
+-- the start, and the loop
+abbrev start : tie.In-loop Inv-loop μ-loop → tie.Start Inv-loop μ-loop
+start c = c .before .before .before .before .before .before
+
+abbrev looped : tie.After-choose-line Inv-loop μ-loop → tie.In-loop Inv-loop μ-loop
+looped c = c .before .before .before .before
+
+-- the prefix line of each line, and how often it is written
+abbrev prefixOf : tie.Start Inv-loop μ-loop → Line → List ℕ
+prefixOf s l = cellsText (s .args .table .now) (numbersIn (s .args .drawing) l)
+
+abbrev timesOf : tie.Start Inv-loop μ-loop → Line → ℕ
+timesOf s = lineTimes (s .args .plan) (s .args .drawing .renderer) (s .args .drawing .row)
+
+-- the prefix line that was chosen
+abbrev chosen : tie.After-choose-line Inv-loop μ-loop → List ℕ
+chosen c = cellsText (start (looped c) .args .table .now) (take (c .choose-line .result) (c .choose-line .last .0))
+
+drew : (c : tie.After-choose-line Inv-loop μ-loop) → 0 < c .before .before .times .result → chosen c ≡ prefixOf (start (looped c)) (c .before .before .before .line-at .result)
+drew c h = ap (cellsText (start (looped c) .args .table .now)) (c .choose-line .ensures .1 h)
+
+-- its lines fit behind those before
+fits : (c : tie.After-choose-line Inv-loop μ-loop)
+    → (looped c .before .loop .length + length (textOf (drawn (replicate (c .before .before .times .result) (chosen c)) (drop (looped c .before .loop .next) (start (looped c) .args .message .now))))
+    ≤ length (looped c .before .loop .out))
+    × (length (textOf (drawn (replicate (c .before .before .times .result) (chosen c)) (drop (looped c .before .loop .next) (start (looped c) .args .message .now))))
+    ≤ length (take (length (looped c .before .loop .out) - looped c .before .loop .length) (drop (looped c .before .loop .length) (looped c .before .loop .out))))
+fits c =
+    let t = c .before .before in
+    let e = t .before in
+    let i = looped c in
+    let l = i .before .loop in
+    let s = start i in
+    next-fits (prefixOf s) (timesOf s) allLines (l .k) PostAncestry (omega (arith, i .loop-test .taken)) (e .line-at .result) (t .times .result) (e .line-at .ensures) (t .times .ensures) (chosen c) (drew c)
+    (s .args .message .now) (s .args .out .now) (l .out) _ (l .inv .1) (s .pre .1)
+
+loop-holds : tie.Need-loop-holds Inv-loop μ-loop
+loop-holds c =
+    let a = c .before .before .before .before .args in
+    (search needs, record { same = refl; rows = row-none (a .message .now) 0 (a .out .now) zero-le })
+
+line-at-requires : tie.Need-line-at-requires Inv-loop μ-loop
+line-at-requires c κs = search needs
+
+times-requires : tie.Need-times-requires Inv-loop μ-loop
+times-requires c κs = search needs
+
+choose-line-requires : tie.Need-choose-line-requires Inv-loop μ-loop
+choose-line-requires c κs = search needs
+
+sub-write-repeated : tie.Need-sub-write-repeated Inv-loop μ-loop
+sub-write-repeated c = omega (arith, fits c .0)
+
+part-write-repeated-start : tie.Need-part-write-repeated-start Inv-loop μ-loop
+part-write-repeated-start c = omega (arith, fits c .0)
+
+part-write-repeated-end : tie.Need-part-write-repeated-end Inv-loop μ-loop
+part-write-repeated-end c = search needs
+
+write-repeated-requires : tie.Need-write-repeated-requires Inv-loop μ-loop
+write-repeated-requires c κs =
+    let d = c .before .before in
+    let t = d .before .before in
+    let i = looped d in
+    let s = start i in (
+      (s .pre .0 .0, i .before .loop .inv .1 .rows .within, rw (t .times .ensures) (plan-short (s .args .plan) (s .args .drawing .renderer) (s .args .drawing .row) (s .pre .0 .1) (t .before .line-at .result))),
+      fits d .1,
+    )
+
+add-length : tie.Need-add-length Inv-loop μ-loop
+add-length c =
+    let w = c .before .before .before in
+    let d = w .before .before .before in
+    let i = looped d in
+    let n : w .write-repeated .result .length ≡ length (textOf (drawn (replicate (d .before .before .times .result) (chosen d)) (drop (i .before .loop .next) (start i .args .message .now)))) = w .write-repeated .ensures .count in
+    let m : length (i .before .loop .out) ≡ length (start i .args .out .now) = i .before .loop .inv .1 .same in
+    omega (arith, start i .good .0, m, n, fits d .0)
+
+greater-requires : tie.Need-greater-requires Inv-loop μ-loop
+greater-requires c κs = search needs
+
+add-k : tie.Need-add-k Inv-loop μ-loop
+add-k c = search needs
+
+loop-less : tie.Need-loop-less Inv-loop μ-loop
+loop-less c = search needs
+
+loop-again : tie.Need-loop-again Inv-loop μ-loop
+loop-again c =
+    let w = c .before .before .before .before in
+    let d = w .before .before .before in
+    let t = d .before .before in
+    let e = t .before in
+    let i = looped d in
+    let l = i .before .loop in
+    let s = start i in
+    let h = i .loop-test .taken in (
+      omega (arith, h),
+      next-written (prefixOf s) (timesOf s) allLines (l .k) PostAncestry (omega (arith, h)) (e .line-at .result) (t .times .result) (e .line-at .ensures) (t .times .ensures) (chosen d) (drew d)
+          (s .args .message .now) (s .args .out .now) (l .out) _ (l .inv .1) (s .pre .1) _ (w .write-repeated .result) _ (w .write-repeated .ensures) (w .write-repeated .kept .0) refl (c .greater .ensures) refl,
+    )
+
+same-length : tie.Need-same-length Inv-loop μ-loop
+same-length c = c .before .loop .inv .1 .same
+
+returns : tie.Need-returns Inv-loop μ-loop
+returns c =
+    let l = c .before .loop in
+    let e : l .k ≡ 9 = omega (arith, l .inv .0) in
+    let r = rw e at (l .inv .1 .rows) in
+    (r .count, r .measure, r .output)
+
+pub write-row-spec : {M : Type 1} → statement M
+write-row-spec =
+    tie.close
+    (tie.spec
+    Inv-loop
+    μ-loop
+    loop-holds
+    line-at-requires
+    times-requires
+    choose-line-requires
+    sub-write-repeated
+    part-write-repeated-start
+    part-write-repeated-end
+    write-repeated-requires
+    add-length
+    greater-requires
+    add-k
+    loop-less
+    loop-again
+    same-length
+    returns)
