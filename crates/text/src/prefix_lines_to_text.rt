@@ -4,7 +4,7 @@ ghost use mathlib.Core.Bool.{cond};
 ghost use mathlib.Core.List.{List, [], _∷_};
 ghost use Prim.Native.Nat.{ℕ, _+_, _<_, _≤_};
 ghost use lib.Dec.{leb};
-ghost use lib.ListN.{length, take, drop, replicate};
+ghost use lib.ListN.{length, drop, replicate};
 ghost use Rattle.column.specs.Columns.{columnLimit};
 ghost use Rattle.glyphs.specs.Tables.{numbersIn, cellsText, firstCells};
 ghost use Rattle.message.specs.Message.{messageLimit};
@@ -161,14 +161,9 @@ fn times(plan: Plan, renderer: Renderer, row: Row, line: Line) -> usize
 }
 
 // Chooses the glyphs of a line that is written so often, and gives how many cells it has.
-fn choose_line(
-    numbers: &mut [u8],
-    drawing: Drawing,
-    line: Line,
-    times: usize,
-) -> usize
+fn choose_line(numbers: &mut [u8], drawing: Drawing, line: Line, times: usize) -> usize
     requires { ⌜ length (now numbers) ≡ columnLimit ⌝ }
-    ensures { λ r. ⌜ (0 < times → firstCells r (now (numbers .exit)) ≡ numbersIn drawing line) ⌝ }
+    ensures { λ r. ⌜ (r ≤ columnLimit) × (0 < times → firstCells r (now (numbers .exit)) ≡ numbersIn drawing line) ⌝ }
 {
     if times == 0 {
         return 0;

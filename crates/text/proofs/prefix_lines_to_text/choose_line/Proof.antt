@@ -1,6 +1,10 @@
 -- Chooses the glyphs of a line that is written so often, and gives how many cells it has.
+use mathlib.Core.Path.{_∙_}
 use Prim.Native.Nat.{zero-le}
 use native.Mathlib.Omega.{arith}
+use lib.ListN.{length}
+use lib.Seq.{take-all}
+use Rattle.glyphs.specs.Tables.{numbersIn}
 use borrow.Author.Needs.{needs}
 use Rattle.text.proofs.prefix_lines_to_text.choose_line.Statement.{statement}
 use Rattle.text.proofs.prefix_lines_to_text.choose_line.Tie as tie
@@ -11,8 +15,14 @@ returns c = (zero-le, λ h. absurd (omega (arith, h, c .if1 .taken)))
 choose-cells-requires : tie.Need-choose-cells-requires
 choose-cells-requires c κs = search needs
 
+same-length : tie.Need-same-length
+same-length c = search needs
+
 returns-2 : tie.Need-returns-2
-returns-2 c = (c .choose-cells .ensures .0, λ h. c .choose-cells .ensures .1)
+returns-2 c =
+    let start = c .before .before .before .before .before .before in
+    let w = c .before .before .choose-cells .ensures in
+    (omega (arith, w .count, w .few), λ h. w .chosen ∙ take-all (length (start .args .numbers .now)) (numbersIn (start .args .drawing) (start .args .line)) (omega (arith, w .few, start .pre)))
 
 pub choose-line-spec : {M : Type 1} → statement M
 choose-line-spec =
@@ -20,4 +30,5 @@ choose-line-spec =
     (tie.spec
     returns
     choose-cells-requires
+    same-length
     returns-2)

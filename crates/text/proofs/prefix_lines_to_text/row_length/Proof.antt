@@ -1,45 +1,50 @@
 -- The length of a row's lines with its message.
-use mathlib.Core.Path.{_≡_, refl}
-use mathlib.Core.List.{map}
-use Prim.Native.Nat.{_≤_, _-_}
+use mathlib.Core.Path.{_≡_, refl, _∙_}
+use mathlib.Core.List.{List, map}
+use Prim.Native.Nat.{ℕ, _≤_, _-_}
 use native.Mathlib.Omega.{arith}
-use lib.ListN.{length, take, length-take}
+use lib.ListN.{length, take}
 use Rattle.glyphs.specs.declared.types.Line.{Line}
 use Rattle.glyphs.specs.declared.types.Line.the-variants.{PostAncestry}
 use Rattle.glyphs.specs.Cells.{allLines}
-use Rattle.glyphs.specs.Tables.{numbersIn, cellsText}
+use Rattle.glyphs.specs.Tables.{numbersIn, cellsText, firstCells}
+use Rattle.column.specs.Columns.{columnLimit}
+use Rattle.glyphs.proofs.CellsLaws.{all-short}
 use Rattle.message.proofs.MessageLaws.{trim-length}
 use Rattle.text.specs.Inner.{spread, lineTimes}
-use Rattle.text.proofs.RepeatLaws.{CountingRow, cells-short, plan-short, row-started, row-counted, row-short, repeated-short}
+use Rattle.text.proofs.RepeatLaws.{CountingRow, plan-short, row-started, row-counted, row-short, repeated-short}
 use borrow.Author.Needs.{needs}
 use Rattle.text.proofs.prefix_lines_to_text.row_length.Statement.{statement}
 use Rattle.text.proofs.prefix_lines_to_text.row_length.Tie as tie
 
+-- the length of a list, where that word names a variable
+abbrev size : List ℕ → ℕ
+size = length
+
 abbrev Inv-loop : tie.InvT-loop
 Inv-loop table drawing plan message renderer row numbers₀ length₀ next₀ k₀ numbers length next k =
-    (k ≤ 9) × CountingRow message (map (λ (l : Line). cellsText table (numbersIn drawing l)) (spread (lineTimes plan renderer row) (take k allLines))) (record { length = length; next = next })
+    (k ≤ 9) × (size numbers ≡ columnLimit) × CountingRow message (map (λ (l : Line). cellsText table (numbersIn drawing l)) (spread (lineTimes plan renderer row) (take k allLines))) (record { length = length; next = next })
 
 abbrev μ-loop : tie.MeasureT-loop
 μ-loop table drawing plan message renderer row numbers₀ length₀ next₀ k₀ numbers length next k = 9 - k
 
 -- the prefix line that was chosen has at most 512 bytes
-prefix-few : (c : tie.After-lengths-of Inv-loop μ-loop) → length (cellsText (c .before .before .before .before .before .before .before .before .before .before .before .args .table .now) (take (c .before .before .choose-line .result) (c .before .before .choose-line .last .0))) ≤ 512
+prefix-few : (c : tie.After-lengths-of Inv-loop μ-loop) → length (cellsText (c .before .before .before .before .before .before .before .before .before .before .before .before .args .table .now) (firstCells (c .before .before .before .choose-line .result) (c .before .before .before .choose-line .last .0))) ≤ 512
 prefix-few c =
-    let d = c .before .before .choose-line in
-    let table = c .before .before .before .before .before .before .before .before .before .before .before .args .table .now in
-    omega (arith, d .ensures .0, cells-short table (take (d .result) (d .last .0)), length-take (d .result) (d .last .0))
+    let d = c .before .before .before .choose-line in
+    all-short (c .before .before .before .before .before .before .before .before .before .before .before .before .args .table .now) (d .last .0) (d .result)
 
 -- and is written at most 512 times
-times-few : (c : tie.After-lengths-of Inv-loop μ-loop) → c .before .before .before .before .times .result ≤ 512
+times-few : (c : tie.After-lengths-of Inv-loop μ-loop) → c .before .before .before .before .before .times .result ≤ 512
 times-few c =
-    let t = c .before .before .before .before in
+    let t = c .before .before .before .before .before in
     let start = t .before .before .before .before .before .before .before in
     rw (t .times .ensures) (plan-short (start .args .plan) (start .args .drawing .renderer) (start .args .drawing .row) (start .pre .1) (t .before .line-at .result))
 
 loop-holds : tie.Need-loop-holds Inv-loop μ-loop
 loop-holds c =
     let s = c .before .before .before in
-    (search needs, row-started (s .args .message .now) (s .pre .0))
+    (search needs, refl, row-started (s .args .message .now) (s .pre .0))
 
 line-at-requires : tie.Need-line-at-requires Inv-loop μ-loop
 line-at-requires c κs = search needs
@@ -47,8 +52,14 @@ line-at-requires c κs = search needs
 times-requires : tie.Need-times-requires Inv-loop μ-loop
 times-requires c κs = search needs
 
+slice-aggregate-choose-line : tie.Need-slice-aggregate-choose-line Inv-loop μ-loop
+slice-aggregate-choose-line c = search needs
+
 choose-line-requires : tie.Need-choose-line-requires Inv-loop μ-loop
-choose-line-requires c κs = search needs
+choose-line-requires c κs = c .before .before .before .before .loop .inv .1
+
+slice-aggregate-lengths-of : tie.Need-slice-aggregate-lengths-of Inv-loop μ-loop
+slice-aggregate-lengths-of c = search needs
 
 lengths-of-requires : tie.Need-lengths-of-requires Inv-loop μ-loop
 lengths-of-requires c κs = search needs
@@ -56,21 +67,21 @@ lengths-of-requires c κs = search needs
 repeated-length-requires : tie.Need-repeated-length-requires Inv-loop μ-loop
 repeated-length-requires c κs =
     let m = c .lengths-of .ensures in
-    let g = c .before .before .before .before .before .before .before .loop .inv .1 in
-    (omega (arith, m .all, prefix-few c), omega (arith, m .all, m .finished, trim-length (cellsText (c .before .before .before .before .before .before .before .before .before .before .before .args .table .now) (take (c .before .before .choose-line .result) (c .before .before .choose-line .last .0)))), g .few, g .counts .within, times-few c)
+    let g = c .before .before .before .before .before .before .before .before .loop .inv .2 in
+    (omega (arith, m .all, prefix-few c), omega (arith, m .all, m .finished, trim-length (cellsText (c .before .before .before .before .before .before .before .before .before .before .before .before .args .table .now) (firstCells (c .before .before .before .choose-line .result) (c .before .before .before .choose-line .last .0)))), g .few, g .counts .within, times-few c)
 
 add-length : tie.Need-add-length Inv-loop μ-loop
 add-length c =
     let w = c .before .before in
-    let t = w .before .before .before .before in
+    let t = w .before .before .before .before .before in
     let l = t .before .before .before .loop in
     let s = t .before .before .before .before .before .before .before in
     let a = s .args in
     omega (
       arith,
       l .inv .0,
-      row-short (λ (l : Line). cellsText (a .table .now) (numbersIn (a .drawing) l)) (lineTimes (a .plan) (a .drawing .renderer) (a .drawing .row)) allLines (l .k) (a .message .now) _ (l .inv .1) (plan-short (a .plan) (a .drawing .renderer) (a .drawing .row) (s .pre .1)) (l .inv .0),
-      repeated-short (a .message .now) _ (t .times .result) (l .next) (c .before .repeated-length .result) (l .inv .1 .few) (prefix-few w) (times-few w) (c .before .repeated-length .ensures _ (w .lengths-of .ensures)),
+      row-short (λ (l : Line). cellsText (a .table .now) (numbersIn (a .drawing) l)) (lineTimes (a .plan) (a .drawing .renderer) (a .drawing .row)) allLines (l .k) (a .message .now) _ (l .inv .2) (plan-short (a .plan) (a .drawing .renderer) (a .drawing .row) (s .pre .1)) (l .inv .0),
+      repeated-short (a .message .now) _ (t .times .result) (l .next) (c .before .repeated-length .result) (l .inv .2 .few) (prefix-few w) (times-few w) (c .before .repeated-length .ensures _ (w .lengths-of .ensures)),
     )
 
 add-k : tie.Need-add-k Inv-loop μ-loop
@@ -82,14 +93,15 @@ loop-less c = search needs
 loop-again : tie.Need-loop-again Inv-loop μ-loop
 loop-again c =
     let w = c .before .before in
-    let d = w .before .before in
+    let d = w .before .before .before in
     let t = d .before .before in
     let e = t .before in
     let l = e .before .before .loop in
     let a = t .before .before .before .before .before .before .before .args in
     let k = e .before .loop-test .taken in (
       omega (arith, k),
-      row-counted (λ (l : Line). cellsText (a .table .now) (numbersIn (a .drawing) l)) (lineTimes (a .plan) (a .drawing .renderer) (a .drawing .row)) allLines (l .k) (a .message .now) _ (l .inv .1)
+      d .choose-line .kept .0 ∙ l .inv .1,
+      row-counted (λ (l : Line). cellsText (a .table .now) (numbersIn (a .drawing) l)) (lineTimes (a .plan) (a .drawing .renderer) (a .drawing .row)) allLines (l .k) (a .message .now) _ (l .inv .2)
           PostAncestry (omega (arith, k)) (e .line-at .result) (t .times .result) (e .line-at .ensures) (t .times .ensures) _ (prefix-few w)
           (λ h. rw (d .choose-line .ensures .1 h) refl) (c .before .repeated-length .result) _ (c .before .repeated-length .ensures _ (w .lengths-of .ensures)) refl refl,
     )
@@ -98,7 +110,7 @@ returns : tie.Need-returns Inv-loop μ-loop
 returns c =
     let l = c .before .loop in
     let e : l .k ≡ 9 = omega (arith, l .inv .0) in
-    rw e at (l .inv .1 .counts .count)
+    rw e at (l .inv .2 .counts .count)
 
 pub row-length-spec : {M : Type 1} → statement M
 row-length-spec =
@@ -109,7 +121,9 @@ row-length-spec =
     loop-holds
     line-at-requires
     times-requires
+    slice-aggregate-choose-line
     choose-line-requires
+    slice-aggregate-lengths-of
     lengths-of-requires
     repeated-length-requires
     add-length

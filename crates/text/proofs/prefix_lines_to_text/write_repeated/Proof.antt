@@ -3,8 +3,8 @@ use mathlib.Core.Path.{_≡_, refl}
 use mathlib.Core.List.{List}
 use Prim.Native.Nat.{ℕ, _<_, _≤_, _-_}
 use native.Mathlib.Omega.{arith}
-use lib.ListN.{length, take, replicate}
-use Rattle.glyphs.specs.Tables.{cellsText}
+use lib.ListN.{length, replicate}
+use Rattle.glyphs.specs.Tables.{cellsText, firstCells}
 use Rattle.text.proofs.RepeatLaws.{Writing, part-within, row-none, first-fits, first-written, again-asked, again-written, some}
 use borrow.Author.Needs.{needs}
 use Rattle.text.proofs.prefix_lines_to_text.write_repeated.Statement.{statement}
@@ -13,8 +13,8 @@ use Rattle.text.proofs.prefix_lines_to_text.write_repeated.Tie as tie
 abbrev Inv-loop : tie.InvT-loop
 Inv-loop out₀ table numbers cells times message start first-end length₀ measure₀ next₀ lengths i₀ out length measure next i =
     (0 < i) × (i ≤ times)
-    × ((b : List ℕ) → Writing message start b (replicate 1 (cellsText table (take cells numbers))) out₀ (record { length = length₀; measure = measure₀; next = next₀ })
-    → Writing message start b (replicate i (cellsText table (take cells numbers))) out (record { length = length; measure = measure; next = next }))
+    × ((b : List ℕ) → Writing message start b (replicate 1 (cellsText table (firstCells cells numbers))) out₀ (record { length = length₀; measure = measure₀; next = next₀ })
+    → Writing message start b (replicate i (cellsText table (firstCells cells numbers))) out (record { length = length; measure = measure; next = next }))
 
 abbrev μ-loop : tie.MeasureT-loop
 μ-loop out₀ table numbers cells times message start first-end length₀ measure₀ next₀ lengths i₀ out length measure next i = times - i
@@ -24,11 +24,11 @@ abbrev first-end : tie.After-next-start Inv-loop μ-loop → tie.After-line-end 
 first-end c = c .before .before .before .before .before .before
 
 abbrev start : tie.After-line-end Inv-loop μ-loop → tie.Start Inv-loop μ-loop
-start c = c .before .before .before .before .before
+start c = c .before .before .before .before .before .before
 
 -- the prefix line
 abbrev line : tie.Start Inv-loop μ-loop → List ℕ
-line s = cellsText (s .args .table .now) (take (s .args .cells) (s .args .numbers .now))
+line s = cellsText (s .args .table .now) (firstCells (s .args .cells) (s .args .numbers .now))
 
 -- the first message line lies within the message
 first-within : (c : tie.After-line-end Inv-loop μ-loop) → (start c .args .start ≤ c .line-end .result) × (c .line-end .result ≤ length (start c .args .message .now))
@@ -62,7 +62,7 @@ next-within c =
 
 returns : tie.Need-returns Inv-loop μ-loop
 returns c =
-    let s = c .before .before .before .before in
+    let s = c .before .before .before .before .before in
     rw (c .if1 .taken) (row-none (s .args .message .now) (s .args .start) (s .args .out .now) (s .pre .0 .1))
 
 line-end-requires : tie.Need-line-end-requires Inv-loop μ-loop

@@ -1,13 +1,14 @@
 -- Writes a row's lines with its message, the glyphs of each chosen once.
-use mathlib.Core.Path.{_≡_, refl, ap}
+use mathlib.Core.Path.{_≡_, refl, ap, _∙_}
 use mathlib.Core.List.{List, map}
 use Prim.Native.Nat.{ℕ, _+_, _-_, _<_, _≤_, zero-le}
 use native.Mathlib.Omega.{arith}
 use lib.ListN.{length, take, drop, replicate}
+use Rattle.column.specs.Columns.{columnLimit}
 use Rattle.glyphs.specs.declared.types.Line.{Line}
 use Rattle.glyphs.specs.declared.types.Line.the-variants.{PostAncestry}
 use Rattle.glyphs.specs.Cells.{allLines}
-use Rattle.glyphs.specs.Tables.{numbersIn, cellsText}
+use Rattle.glyphs.specs.Tables.{numbersIn, cellsText, firstCells}
 use Rattle.output.specs.Output.{textOf}
 use Rattle.text.specs.Inner.{drawn, spread, lineTimes}
 use Rattle.text.proofs.RepeatLaws.{Writing, row-none, plan-short, next-fits, next-written}
@@ -15,9 +16,13 @@ use borrow.Author.Needs.{needs}
 use Rattle.text.proofs.prefix_lines_to_text.write_row.Statement.{statement}
 use Rattle.text.proofs.prefix_lines_to_text.write_row.Tie as tie
 
+-- the length of a list, where that word names a variable
+abbrev size : List ℕ → ℕ
+size = length
+
 abbrev Inv-loop : tie.InvT-loop
 Inv-loop out₀ table drawing plan message renderer row numbers₀ length₀ measure₀ next₀ k₀ out numbers length measure next k =
-    (k ≤ 9)
+    (k ≤ 9) × (size numbers ≡ columnLimit)
     × Writing message 0 out₀ (map (λ (l : Line). cellsText table (numbersIn drawing l)) (spread (lineTimes plan renderer row) (take k allLines))) out
     (record { length = length; measure = measure; next = next })
 
@@ -40,7 +45,7 @@ timesOf s = lineTimes (s .args .plan) (s .args .drawing .renderer) (s .args .dra
 
 -- the prefix line that was chosen
 abbrev chosen : tie.After-choose-line Inv-loop μ-loop → List ℕ
-chosen c = cellsText (start (looped c) .args .table .now) (take (c .choose-line .result) (c .choose-line .last .0))
+chosen c = cellsText (start (looped c) .args .table .now) (firstCells (c .choose-line .result) (c .choose-line .last .0))
 
 drew : (c : tie.After-choose-line Inv-loop μ-loop) → 0 < c .before .before .times .result → chosen c ≡ prefixOf (start (looped c)) (c .before .before .before .line-at .result)
 drew c h = ap (cellsText (start (looped c) .args .table .now)) (c .choose-line .ensures .1 h)
@@ -58,12 +63,12 @@ fits c =
     let l = i .before .loop in
     let s = start i in
     next-fits (prefixOf s) (timesOf s) allLines (l .k) PostAncestry (omega (arith, i .loop-test .taken)) (e .line-at .result) (t .times .result) (e .line-at .ensures) (t .times .ensures) (chosen c) (drew c)
-    (s .args .message .now) (s .args .out .now) (l .out) _ (l .inv .1) (s .pre .1)
+    (s .args .message .now) (s .args .out .now) (l .out) _ (l .inv .2) (s .pre .1)
 
 loop-holds : tie.Need-loop-holds Inv-loop μ-loop
 loop-holds c =
     let a = c .before .before .before .before .args in
-    (search needs, record { same = refl; rows = row-none (a .message .now) 0 (a .out .now) zero-le })
+    (search needs, refl, record { same = refl; rows = row-none (a .message .now) 0 (a .out .now) zero-le })
 
 line-at-requires : tie.Need-line-at-requires Inv-loop μ-loop
 line-at-requires c κs = search needs
@@ -71,35 +76,41 @@ line-at-requires c κs = search needs
 times-requires : tie.Need-times-requires Inv-loop μ-loop
 times-requires c κs = search needs
 
+slice-aggregate-choose-line : tie.Need-slice-aggregate-choose-line Inv-loop μ-loop
+slice-aggregate-choose-line c = search needs
+
 choose-line-requires : tie.Need-choose-line-requires Inv-loop μ-loop
-choose-line-requires c κs = search needs
+choose-line-requires c κs = c .before .before .before .before .loop .inv .1
 
 sub-write-repeated : tie.Need-sub-write-repeated Inv-loop μ-loop
-sub-write-repeated c = omega (arith, fits c .0)
+sub-write-repeated c = omega (arith, fits (c .before) .0)
 
 part-write-repeated-start : tie.Need-part-write-repeated-start Inv-loop μ-loop
-part-write-repeated-start c = omega (arith, fits c .0)
+part-write-repeated-start c = omega (arith, fits (c .before) .0)
 
 part-write-repeated-end : tie.Need-part-write-repeated-end Inv-loop μ-loop
 part-write-repeated-end c = search needs
 
+slice-aggregate-write-repeated : tie.Need-slice-aggregate-write-repeated Inv-loop μ-loop
+slice-aggregate-write-repeated c = search needs
+
 write-repeated-requires : tie.Need-write-repeated-requires Inv-loop μ-loop
 write-repeated-requires c κs =
-    let d = c .before .before in
+    let d = c .before .before .before in
     let t = d .before .before in
     let i = looped d in
     let s = start i in (
-      (s .pre .0 .0, i .before .loop .inv .1 .rows .within, rw (t .times .ensures) (plan-short (s .args .plan) (s .args .drawing .renderer) (s .args .drawing .row) (s .pre .0 .1) (t .before .line-at .result))),
+      (s .pre .0 .0, i .before .loop .inv .2 .rows .within, rw (t .times .ensures) (plan-short (s .args .plan) (s .args .drawing .renderer) (s .args .drawing .row) (s .pre .0 .1) (t .before .line-at .result))),
       fits d .1,
     )
 
 add-length : tie.Need-add-length Inv-loop μ-loop
 add-length c =
     let w = c .before .before .before in
-    let d = w .before .before .before in
+    let d = w .before .before .before .before in
     let i = looped d in
     let n : w .write-repeated .result .length ≡ length (textOf (drawn (replicate (d .before .before .times .result) (chosen d)) (drop (i .before .loop .next) (start i .args .message .now)))) = w .write-repeated .ensures .count in
-    let m : length (i .before .loop .out) ≡ length (start i .args .out .now) = i .before .loop .inv .1 .same in
+    let m : length (i .before .loop .out) ≡ length (start i .args .out .now) = i .before .loop .inv .2 .same in
     omega (arith, start i .good .0, m, n, fits d .0)
 
 greater-requires : tie.Need-greater-requires Inv-loop μ-loop
@@ -114,7 +125,7 @@ loop-less c = search needs
 loop-again : tie.Need-loop-again Inv-loop μ-loop
 loop-again c =
     let w = c .before .before .before .before in
-    let d = w .before .before .before in
+    let d = w .before .before .before .before in
     let t = d .before .before in
     let e = t .before in
     let i = looped d in
@@ -122,18 +133,19 @@ loop-again c =
     let s = start i in
     let h = i .loop-test .taken in (
       omega (arith, h),
+      d .choose-line .kept .0 ∙ l .inv .1,
       next-written (prefixOf s) (timesOf s) allLines (l .k) PostAncestry (omega (arith, h)) (e .line-at .result) (t .times .result) (e .line-at .ensures) (t .times .ensures) (chosen d) (drew d)
-          (s .args .message .now) (s .args .out .now) (l .out) _ (l .inv .1) (s .pre .1) _ (w .write-repeated .result) _ (w .write-repeated .ensures) (w .write-repeated .kept .0) refl (c .greater .ensures) refl,
+          (s .args .message .now) (s .args .out .now) (l .out) _ (l .inv .2) (s .pre .1) _ (w .write-repeated .result) _ (w .write-repeated .ensures) (w .write-repeated .kept .0) refl (c .greater .ensures) refl,
     )
 
 same-length : tie.Need-same-length Inv-loop μ-loop
-same-length c = c .before .loop .inv .1 .same
+same-length c = c .before .loop .inv .2 .same
 
 returns : tie.Need-returns Inv-loop μ-loop
 returns c =
     let l = c .before .loop in
     let e : l .k ≡ 9 = omega (arith, l .inv .0) in
-    let r = rw e at (l .inv .1 .rows) in
+    let r = rw e at (l .inv .2 .rows) in
     (r .count, r .measure, r .output)
 
 pub write-row-spec : {M : Type 1} → statement M
@@ -145,10 +157,12 @@ write-row-spec =
     loop-holds
     line-at-requires
     times-requires
+    slice-aggregate-choose-line
     choose-line-requires
     sub-write-repeated
     part-write-repeated-start
     part-write-repeated-end
+    slice-aggregate-write-repeated
     write-repeated-requires
     add-length
     greater-requires
