@@ -26,14 +26,14 @@ use Rattle.render.specs.Entries.{entryId}
 use Rattle.render.specs.Lines.{blankCell, nodeToPad, footPad, preNodeLine, postAncestryLine}
 use Rattle.shaper.specs.Shaper.{View}
 use Rattle.shaper.specs.NodeColumn.{dense, staggered, nodeColumn, head}
-use Rattle.placing.specs.Placing.{columnOf, parentColumn, enter, walk, swap, gaveUp, swapped, dashed, placeAt, kindOf, drawsAt}
+use Rattle.placing.specs.Placing.{columnOf, parentColumn, enter, walk, swap, gaveUp, swapped, solidOnce, placeAt, kindOf, drawsAt}
 use Rattle.links.specs.declared.Drawn.{Drawn}
 use Rattle.links.specs.declared.Swap.{Swap}
 use Rattle.links.specs.declared.AncestorColumnBounds.{AncestorColumnBounds}
 use Rattle.links.specs.Links.{boundsOf, linked}
 use Rattle.cells.specs.Cells.{besideNode, nodeCell, padOf, cellOf, cellsFrom}
 use Rattle.row_shape.specs.Row.{shapeAt}
-use Rattle.marked.proofs.Holding.{Where, away, there, findIs, at-vacant, at-staggered, Spot, spotIs, nodeSpot, spot-only, empty-holds, enter-stays, walk-stays, flip, flip-left, flip-else, flip-flip, at-swap, rowEnd, dash, at-row-end, end-keeps, ids-kept, row-end-stays}
+use Rattle.marked.proofs.Holding.{Where, away, there, findIs, at-vacant, at-staggered, Spot, spotIs, nodeSpot, spot-only, empty-holds, enter-stays, walk-stays, flip, flip-left, flip-else, flip-flip, at-swap, rowEnd, solidColumn, at-row-end, end-keeps, ids-kept, row-end-stays}
 use Rattle.placing.proofs.PlacingLaws.{walk-more}
 use Rattle.cells.proofs.CellLaws.{length-cells}
 use Rattle.history.specs.Account.{Row, AsNamed, Waiting, waitsAfter}
@@ -77,7 +77,7 @@ settle-moves c (e ∷ []) cs w i x W b h = (pulled (parentColumn c e cs) (spotIs
         not-p z = n (spot-only (entryId e) cs p S x (subst (λ (k : ℕ). Holds cs k x) z h)) (omega (arith, ltb-true c p t))
 
 -- ---- the end of a row
-kinds-kept : (d : DashStyle) (c : Column) → waitOf (unblock (dash d c)) ≡ waitOf c
+kinds-kept : (d : DashStyle) (c : Column) → waitOf (unblock (solidColumn d c)) ≡ waitOf c
 kinds-kept = end-keeps waitOf refl (λ n. refl)
 
 row-end-keeps : (d : DashStyle) (cs : List Column) (w : Waiting) → Wait-in cs w → Wait-in (rowEnd d cs) w
@@ -120,8 +120,8 @@ full-trim (c ∷ cs) = full-keep c (trim cs) (full-trim cs)
 pub row-end-tidy : (d : DashStyle) (cs : List Column) → Tidy (rowEnd d cs)
 row-end-tidy d cs =
     record {
-      unblocked = λ i z. never-blocked (dash d (at cs i)) (sym (at-row-end d cs i) ∙ z);
-      full = full-trim (map unblock (dashed d cs));
+      unblocked = λ i z. never-blocked (solidColumn d (at cs i)) (sym (at-row-end d cs i) ∙ z);
+      full = full-trim (map unblock (solidOnce d cs));
     }
 
 pub reserve-tidy : (cs : List Column) (k n : ℕ) → Tidy cs → Tidy (put cs k (Reserved n))
@@ -167,7 +167,7 @@ line-at f w h i = go (ltb i w) refl
     go true e = let z : 0 + i ≡ i = omega arith in cells-in f 0 w i (ltb-true _ _ e) ∙ ap f z
     go false e = List·getD-eq-default (cellsFrom f 0 w) Blank (rw (length-cells f Blank 0 w) (ltb-false _ _ e)) ∙ sym (h i (ltb-false _ _ e))
 
-foot-pad : (d : DashStyle) (c : Column) → padStroke (footPad d (padOf c)) ≡ pad (unblock (dash d c))
+foot-pad : (d : DashStyle) (c : Column) → padStroke (footPad d (padOf c)) ≡ pad (unblock (solidColumn d c))
 foot-pad Persistent Empty = refl
 foot-pad Persistent Blocked = refl
 foot-pad Persistent (Reserved n) = refl
