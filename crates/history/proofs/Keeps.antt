@@ -23,13 +23,13 @@ use Rattle.shaper.specs.NodeColumn.{nodeColumn}
 use Rattle.placing.specs.Placing.{Placed, placeAt, place}
 use Rattle.row_shape.specs.Row.{RowReply, rowChecks, shapeAt, rowAfter, rowAnswer, row, noShape}
 use Rattle.history.specs.Account.{Call, Reserve, Row, Waiting, nobody, account, waitsAfter}
-use Rattle.history.specs.Demand3.{Stroke, cell, Holds, Wait-in, Tidy, OneEntry, Own, Pulls, Moves, Drawn, isDrawn, waitingAfter, footAfter, Kept, Keeps, KeepsEveryLine}
+use Rattle.history.specs.Demand3.{Stroke, cell, Holds, Wait-in, Tidy, OneEntry, Own, Pulls, Moves, DrawnRow, isDrawn, waitingAfter, footAfter, Kept, Keeps, KeepsEveryLine}
 use Rattle.history.specs.Ours.{TextArguments, Item, Plain, Text, callOf, textOn, isRefusal, refuses, after, shapeOf, headLine, footLine, ours}
 use Rattle.glyphs.specs.declared.Renderer.{Renderer}
 use Rattle.history.proofs.AsRow.{row-accepted, accepted-view, refused-view}
 use Rattle.history.proofs.Lines.{head-shows as head-line, foot-shows as foot-line}
 use Rattle.history.proofs.Waits.{reserve-keeps, decId}
-use Rattle.history.proofs.Rows.{Shows, finish-tidy, reserve-tidy, strokes-of, foot-shows, head-meets, row-keeps, row-moves, reserve-stays, reserve-shows}
+use Rattle.history.proofs.Rows.{Shows, row-end-tidy, reserve-tidy, strokes-of, foot-shows, head-meets, row-keeps, row-moves, reserve-stays, reserve-shows}
 
 -- what holds between two calls
 record Inv (v : View) (w : Waiting) (f : List Stroke) : Type 0 where
@@ -85,7 +85,7 @@ module _ (q : Renderer) where
       waiting : Wait-in cs (account c refused w)
       tidy : Tidy cs
       moving : (x i j : ℕ) → Holds (v .columns) i x → Holds cs j x → (Own c refused x → ⊥) → Moves c refused (g .«node_column») x i j
-      drawn : isDrawn c refused ≡ true → Drawn cs (account c refused w) (g .«node_column») (headLine q g) (footLine q g) f
+      drawn : isDrawn c refused ≡ true → DrawnRow cs (account c refused w) (g .«node_column») (headLine q g) (footLine q g) f
       shows : Shows (cond (isDrawn c refused) (footLine q g) f) cs
 
     taken : (k : Item) → Facts (callOf k) (refuses v k) (after v k .columns) (shapeOf v (callOf k)) → Step v w f k
@@ -195,7 +195,7 @@ module _ (q : Renderer) where
         row-facts =
             record {
               waiting = W;
-              tidy = finish-tidy (v .style .«dash_style») (p .settled);
+              tidy = row-end-tidy (v .style .«dash_style») (p .settled);
               moving = row-moving;
               drawn = λ d.
                   record {

@@ -26,26 +26,26 @@ use Rattle.render.specs.Entries.{entryId}
 use Rattle.render.specs.Lines.{blankCell, nodeToPad, footPad, preNodeLine, postAncestryLine}
 use Rattle.shaper.specs.Shaper.{View}
 use Rattle.shaper.specs.NodeColumn.{dense, staggered, nodeColumn, head}
-use Rattle.placing.specs.Placing.{columnOf, parentColumn, enter, walk, swap, gaveUp, swapped, dashed, placeAt, kindOf, drawsAt}
+use Rattle.placing.specs.Placing.{columnOf, parentColumn, enter, walk, swap, gaveUp, swapped, solidOnce, placeAt, kindOf, drawsAt}
 use Rattle.links.specs.declared.Drawn.{Drawn}
 use Rattle.links.specs.declared.Swap.{Swap}
 use Rattle.links.specs.declared.AncestorColumnBounds.{AncestorColumnBounds}
 use Rattle.links.specs.Links.{boundsOf, linked}
 use Rattle.cells.specs.Cells.{besideNode, nodeCell, padOf, cellOf, cellsFrom}
 use Rattle.row_shape.specs.Row.{shapeAt}
-use Rattle.marked.proofs.Holding.{Where, away, there, findIs, at-vacant, at-staggered, Spot, spotIs, nodeSpot, spot-only, empty-holds, enter-stays, walk-stays, flip, flip-left, flip-else, flip-flip, at-swap, finish, dash, at-finish, end-keeps, ids-kept, finish-stays}
+use Rattle.marked.proofs.Holding.{Where, away, there, findIs, at-vacant, at-staggered, Spot, spotIs, nodeSpot, spot-only, empty-holds, enter-stays, walk-stays, flip, flip-left, flip-else, flip-flip, at-swap, rowEnd, solidColumn, at-row-end, end-keeps, ids-kept, row-end-stays}
 use Rattle.placing.proofs.PlacingLaws.{walk-more}
 use Rattle.cells.proofs.CellLaws.{length-cells}
 use Rattle.history.specs.Account.{Row, AsNamed, Waiting, waitsAfter}
 use Rattle.history.specs.Demand3.{Stroke, Blank, Holds, waitOf, Wait-in, Tidy, OneEntry, cell, isStroke, solid, overNode}
 use Rattle.history.proofs.Lines.{padStroke}
-use Rattle.history.proofs.Waits.{places, spot-alone, walk-keeps, bare-keeps, ending}
+use Rattle.history.proofs.Waits.{rearranged, spot-alone, walk-keeps, bare-keeps, ending}
 
 -- ---- the swap
 swapped-keeps : (f : Found) (c : ℕ) (cs : List Column) (w : Waiting) → Wait-in cs w → Wait-in (swapped f c cs) w
 swapped-keeps Nothing c cs w W = W
 swapped-keeps (At p) c cs w W =
-    places cs (swap c p cs) w (flip c p) (flip-flip c p) (λ i. ap idOf (at-swap c p cs i)) (λ i. ap waitOf (at-swap c p cs i)) W
+    rearranged cs (swap c p cs) w (flip c p) (flip-flip c p) (λ i. ap idOf (at-swap c p cs i)) (λ i. ap waitOf (at-swap c p cs i)) W
 
 -- where an id is after the entries and the swap
 pub settle-moves : (c : ℕ) (es : List Entry) (cs : List Column) (w : Waiting) (i x : ℕ) → Wait-in cs w → at cs c ≡ Empty → Holds cs i x
@@ -77,14 +77,14 @@ settle-moves c (e ∷ []) cs w i x W b h = (pulled (parentColumn c e cs) (spotIs
         not-p z = n (spot-only (entryId e) cs p S x (subst (λ (k : ℕ). Holds cs k x) z h)) (omega (arith, ltb-true c p t))
 
 -- ---- the end of a row
-kinds-kept : (d : DashStyle) (c : Column) → waitOf (unblock (dash d c)) ≡ waitOf c
+kinds-kept : (d : DashStyle) (c : Column) → waitOf (unblock (solidColumn d c)) ≡ waitOf c
 kinds-kept = end-keeps waitOf refl (λ n. refl)
 
-finish-keeps : (d : DashStyle) (cs : List Column) (w : Waiting) → Wait-in cs w → Wait-in (finish d cs) w
-finish-keeps d cs w W =
-    places cs (finish d cs) w (λ i. i) (λ i. refl)
-    (λ i. ap idOf (at-finish d cs i) ∙ ids-kept d (at cs i))
-    (λ i. ap waitOf (at-finish d cs i) ∙ kinds-kept d (at cs i)) W
+row-end-keeps : (d : DashStyle) (cs : List Column) (w : Waiting) → Wait-in cs w → Wait-in (rowEnd d cs) w
+row-end-keeps d cs w W =
+    rearranged cs (rowEnd d cs) w (λ i. i) (λ i. refl)
+    (λ i. ap idOf (at-row-end d cs i) ∙ ids-kept d (at cs i))
+    (λ i. ap waitOf (at-row-end d cs i) ∙ kinds-kept d (at cs i)) W
 
 never-blocked : (c : Column) → unblock c ≢ Blocked
 never-blocked Empty z = omega (arith, ap rank z)
@@ -117,11 +117,11 @@ full-trim : (cs : List Column) → Full (trim cs)
 full-trim [] = λ n e. absurd (omega arith)
 full-trim (c ∷ cs) = full-keep c (trim cs) (full-trim cs)
 
-pub finish-tidy : (d : DashStyle) (cs : List Column) → Tidy (finish d cs)
-finish-tidy d cs =
+pub row-end-tidy : (d : DashStyle) (cs : List Column) → Tidy (rowEnd d cs)
+row-end-tidy d cs =
     record {
-      unblocked = λ i z. never-blocked (dash d (at cs i)) (sym (at-finish d cs i) ∙ z);
-      full = full-trim (map unblock (dashed d cs));
+      unblocked = λ i z. never-blocked (solidColumn d (at cs i)) (sym (at-row-end d cs i) ∙ z);
+      full = full-trim (map unblock (solidOnce d cs));
     }
 
 pub reserve-tidy : (cs : List Column) (k n : ℕ) → Tidy cs → Tidy (put cs k (Reserved n))
@@ -167,7 +167,7 @@ line-at f w h i = go (ltb i w) refl
     go true e = let z : 0 + i ≡ i = omega arith in cells-in f 0 w i (ltb-true _ _ e) ∙ ap f z
     go false e = List·getD-eq-default (cellsFrom f 0 w) Blank (rw (length-cells f Blank 0 w) (ltb-false _ _ e)) ∙ sym (h i (ltb-false _ _ e))
 
-foot-pad : (d : DashStyle) (c : Column) → padStroke (footPad d (padOf c)) ≡ pad (unblock (dash d c))
+foot-pad : (d : DashStyle) (c : Column) → padStroke (footPad d (padOf c)) ≡ pad (unblock (solidColumn d c))
 foot-pad Persistent Empty = refl
 foot-pad Persistent Blocked = refl
 foot-pad Persistent (Reserved n) = refl
@@ -227,7 +227,7 @@ module _ (v : View) (n : ℕ) (es : List Entry) where
   settled = swapped (gaveUp c es bare) c ws
 
   abbrev end : List Column
-  end = finish (v .style .«dash_style») settled
+  end = rowEnd (v .style .«dash_style») settled
 
   abbrev width : ℕ
   width = length ws
@@ -264,7 +264,7 @@ module _ (v : View) (n : ℕ) (es : List Entry) where
       ap (λ (l : List Stroke). cell l i) (map-map padStroke (λ (x : Cell). footPad (v .style .«dash_style») (x .ancestry)) cells ∙ line-is (λ (x : Cell). padStroke (footPad (v .style .«dash_style») (x .ancestry))))
       ∙ line-at (λ i. padStroke (footPad (v .style .«dash_style») (padOf (at settled i)))) width blank i
       ∙ foot-pad (v .style .«dash_style») (at settled i)
-      ∙ sym (ap pad (at-finish (v .style .«dash_style») settled i))
+      ∙ sym (ap pad (at-row-end (v .style .«dash_style») settled i))
     where
       blank : (i : ℕ) → width ≤ i → padStroke (footPad (v .style .«dash_style») (padOf (at settled i))) ≡ Blank
       blank i h = ap (λ (x : Column). padStroke (footPad (v .style .«dash_style») (padOf x))) (swap-past (gaveUp c es bare) (gave-in c es bare) i h)
@@ -282,12 +282,12 @@ module _ (v : View) (n : ℕ) (es : List Entry) where
       held (Ancestor m) q = refl
       held (Parent m) q = refl
 
-  beside : (b : Bool) (x : Column) → padStroke (nodeToPad b (besideNode x)) ≡ pad x
-  beside b Empty = refl
-  beside b Blocked = refl
-  beside b (Reserved m) = refl
-  beside b (Ancestor m) = refl
-  beside b (Parent m) = refl
+  beside-node : (b : Bool) (x : Column) → padStroke (nodeToPad b (besideNode x)) ≡ pad x
+  beside-node b Empty = refl
+  beside-node b Blocked = refl
+  beside-node b (Reserved m) = refl
+  beside-node b (Ancestor m) = refl
+  beside-node b (Parent m) = refl
 
   abbrev hd : Bool
   hd = head (find n (v .columns)) (v .columns)
@@ -309,7 +309,7 @@ module _ (v : View) (n : ℕ) (es : List Entry) where
       go true e =
           over-node (dense v) (find n (v .columns)) (findIs n (v .columns))
           ∙ ap solid (ap (λ (k : ℕ). pad (at (v .columns) k)) (sym (eqb-true i c e)) ∙ sym (S i))
-      go false e = beside hd (at bare i) ∙ ap pad (at-put-other (v .columns) c Empty i (eqb-false i c e)) ∙ sym (S i)
+      go false e = beside-node hd (at bare i) ∙ ap pad (at-put-other (v .columns) c Empty i (eqb-false i c e)) ∙ sym (S i)
 
   module _ (w : Waiting) (W : Wait-in (v .columns) w) where
     bare-waits : Wait-in bare (ending n w)
@@ -317,7 +317,7 @@ module _ (v : View) (n : ℕ) (es : List Entry) where
 
     pub row-keeps : Wait-in end (waitsAfter (Row n es) w)
     row-keeps =
-        finish-keeps (v .style .«dash_style») settled (waitsAfter (Row n es) w)
+        row-end-keeps (v .style .«dash_style») settled (waitsAfter (Row n es) w)
         (swapped-keeps (gaveUp c es bare) c ws (waitsAfter (Row n es) w)
         (walk-keeps c es bare (ending n w) (waitsAfter (Row n es) w) bare-waits (λ x. refl)))
 
@@ -331,8 +331,8 @@ module _ (v : View) (n : ℕ) (es : List Entry) where
         → (OneEntry x es → c < i → j ≡ c) × ((OneEntry x es → c < i → ⊥) → j ≡ i)
     row-moves x i j a q h =
         let m = settle-moves c es bare (ending n w) i x bare-waits (at-put-same (v .columns) c Empty) (bare-stays i x h a) in (
-          λ o l. row-keeps .one j c x q (finish-stays (v .style .«dash_style») settled c x (m .0 o l)),
-          λ no-pull. row-keeps .one j i x q (finish-stays (v .style .«dash_style») settled i x (m .1 no-pull)),
+          λ o l. row-keeps .one j c x q (row-end-stays (v .style .«dash_style») settled c x (m .0 o l)),
+          λ no-pull. row-keeps .one j i x q (row-end-stays (v .style .«dash_style») settled i x (m .1 no-pull)),
         )
 
 -- ---- a reservation moves no id and changes no line

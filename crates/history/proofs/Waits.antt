@@ -77,10 +77,10 @@ module _ (cs : List Column) (w w′ : Waiting) (k : ℕ) (v : Column) (W : Wait-
   put-keeps = record { held = put-held; waits = put-waits; one = put-one }
 
 -- columns that change places, and columns whose ids wait as before
-pub places : (cs ds : List Column) (w : Waiting) (σ : ℕ → ℕ) → ((i : ℕ) → σ (σ i) ≡ i)
+pub rearranged : (cs ds : List Column) (w : Waiting) (σ : ℕ → ℕ) → ((i : ℕ) → σ (σ i) ≡ i)
     → ((i : ℕ) → idOf (at ds i) ≡ idOf (at cs (σ i))) → ((i : ℕ) → waitOf (at ds i) ≡ waitOf (at cs (σ i)))
     → Wait-in cs w → Wait-in ds w
-places cs ds w σ back ids kinds W =
+rearranged cs ds w σ back ids kinds W =
     record {
       held = λ x h. (σ (W .held x h .0), ids (σ (W .held x h .0)) ∙ (rw back (W .held x h .1)));
       waits = λ i x q. W .waits (σ i) x (sym (ids i) ∙ q) ∙ sym (kinds i);

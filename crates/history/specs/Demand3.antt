@@ -102,7 +102,7 @@ pub record Moves (k : Call) (refused : Bool) (c x i j : ℕ) : Type 0 where
   pub to : Pulls k refused x i c → j ≡ c
 
 -- an accepted row: the columns cs and the ids w that wait right after it, the node's column c, its head and foot, and the foot line of the accepted row before
-pub record Drawn (cs : List Column) (w : Waiting) (c : ℕ) (head foot before : List Stroke) : Type 0 where
+pub record DrawnRow (cs : List Column) (w : Waiting) (c : ℕ) (head foot before : List Stroke) : Type 0 where
   -- "has a stroke exactly in the columns of the ids that wait as named right after that row"
   pub strokes : (i : ℕ) → isStroke (cell foot i) ↔ ((x : ℕ) × Holds cs i x × (w x ≡ AsNamed))
   -- "equals the next accepted row's head line"
@@ -135,7 +135,7 @@ module _ (M : Machine) where
     -- "An id waiting before and after a call, other than an accepted row's own node"
     pub moving : (x i j : ℕ) → w x ≢ Idle → waitingAfter s k w x ≢ Idle → Holds (M .columns s) i x → Holds (columnsAfter s k) j x
         → (Own (M .call k) (M .refuses s k) x → ⊥) → Moves (M .call k) (M .refuses s k) (M .node s k) x i j
-    pub drawn : draws s k ≡ true → Drawn (columnsAfter s k) (waitingAfter s k w) (M .node s k) (M .head s k) (M .foot s k) f
+    pub drawn : draws s k ≡ true → DrawnRow (columnsAfter s k) (waitingAfter s k w) (M .node s k) (M .head s k) (M .foot s k) f
 
   -- what holds of a list of calls, "after each call"
   abbrev pub Keeps : M .State → Waiting → List Stroke → List (M .Item) → Type 0

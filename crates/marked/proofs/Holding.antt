@@ -25,7 +25,7 @@ use Rattle.render.specs.declared.types.DashStyle.the-variants.{Persistent, Once
 use Rattle.render.specs.Entries.{entryId}
 use Rattle.shaper.specs.Shaper.{View}
 use Rattle.shaper.specs.NodeColumn.{dense, staggered, unallocated, nodeColumn}
-use Rattle.placing.specs.Placing.{columnOf, parentColumn, enter, walk, swap, gaveUp, swapped, dashed}
+use Rattle.placing.specs.Placing.{columnOf, parentColumn, enter, walk, swap, gaveUp, swapped, solidOnce}
 
 -- column i holds the id x
 abbrev pub Holds : List Column → ℕ → ℕ → Type 0
@@ -245,27 +245,27 @@ swapped-holds Nothing c cs i x h = (i, h)
 swapped-holds (At p) c cs i x h = (flip c p i, ap idOf (at-swap c p cs (flip c p i) ∙ ap (at cs) (flip-flip c p i)) ∙ h)
 
 -- ---- the end of a row: dashes, Blocked columns, and Empty ones at the end
-abbrev pub finish : DashStyle → List Column → List Column
-finish d cs = reset (dashed d cs)
+abbrev pub rowEnd : DashStyle → List Column → List Column
+rowEnd d cs = reset (solidOnce d cs)
 
-abbrev pub dash : DashStyle → Column → Column
-dash Persistent c = c
-dash Once c = direct c
+abbrev pub solidColumn : DashStyle → Column → Column
+solidColumn Persistent c = c
+solidColumn Once c = direct c
 
 pub at-map : (f : Column → Column) → f Empty ≡ Empty → (cs : List Column) (i : ℕ) → at (map f cs) i ≡ f (at cs i)
 at-map f e [] i = sym e
 at-map f e (c ∷ cs) zero = refl
 at-map f e (c ∷ cs) (suc i) = at-map f e cs i
 
-at-dashed : (d : DashStyle) (cs : List Column) (i : ℕ) → at (dashed d cs) i ≡ dash d (at cs i)
-at-dashed Persistent cs i = refl
-at-dashed Once cs i = at-map direct refl cs i
+at-solid-once : (d : DashStyle) (cs : List Column) (i : ℕ) → at (solidOnce d cs) i ≡ solidColumn d (at cs i)
+at-solid-once Persistent cs i = refl
+at-solid-once Once cs i = at-map direct refl cs i
 
-pub at-finish : (d : DashStyle) (cs : List Column) (i : ℕ) → at (finish d cs) i ≡ unblock (dash d (at cs i))
-at-finish d cs i = trim-at (map unblock (dashed d cs)) i ∙ (at-map unblock refl (dashed d cs) i ∙ ap unblock (at-dashed d cs i))
+pub at-row-end : (d : DashStyle) (cs : List Column) (i : ℕ) → at (rowEnd d cs) i ≡ unblock (solidColumn d (at cs i))
+at-row-end d cs i = trim-at (map unblock (solidOnce d cs)) i ∙ (at-map unblock refl (solidOnce d cs) i ∙ ap unblock (at-solid-once d cs i))
 
 -- what is the same of Empty and Blocked columns, and of Parent and Ancestor ones, the end of a row keeps
-pub end-keeps : {A : Type 0} (f : Column → A) → f Empty ≡ f Blocked → ((n : ℕ) → f (Parent n) ≡ f (Ancestor n)) → (d : DashStyle) (c : Column) → f (unblock (dash d c)) ≡ f c
+pub end-keeps : {A : Type 0} (f : Column → A) → f Empty ≡ f Blocked → ((n : ℕ) → f (Parent n) ≡ f (Ancestor n)) → (d : DashStyle) (c : Column) → f (unblock (solidColumn d c)) ≡ f c
 end-keeps f b a Persistent Empty = refl
 end-keeps f b a Persistent Blocked = b
 end-keeps f b a Persistent (Reserved n) = refl
@@ -277,16 +277,16 @@ end-keeps f b a Once (Reserved n) = refl
 end-keeps f b a Once (Ancestor n) = a n
 end-keeps f b a Once (Parent n) = refl
 
-pub ids-kept : (d : DashStyle) (c : Column) → idOf (unblock (dash d c)) ≡ idOf c
+pub ids-kept : (d : DashStyle) (c : Column) → idOf (unblock (solidColumn d c)) ≡ idOf c
 ids-kept = end-keeps idOf refl (λ n. refl)
 
-pub finish-stays : (d : DashStyle) (cs : List Column) (i x : ℕ) → Holds cs i x → Holds (finish d cs) i x
-finish-stays d cs i x h = ap idOf (at-finish d cs i) ∙ (ids-kept d (at cs i) ∙ h)
+pub row-end-stays : (d : DashStyle) (cs : List Column) (i x : ℕ) → Holds cs i x → Holds (rowEnd d cs) i x
+row-end-stays d cs i x h = ap idOf (at-row-end d cs i) ∙ (ids-kept d (at cs i) ∙ h)
 
 -- a named parent is held after the row
 pub row-holds : (d : DashStyle) (c : ℕ) (es : List Entry) (cs : List Column) (x : ℕ) → named x es ≡ true
-    → (i : ℕ) × Holds (finish d (swapped (gaveUp c es cs) c (walk c es cs))) i x
+    → (i : ℕ) × Holds (rowEnd d (swapped (gaveUp c es cs) c (walk c es cs))) i x
 row-holds d c es cs x h =
     let a = walk-holds c es cs x h in
     let b = swapped-holds (gaveUp c es cs) c (walk c es cs) (a .0) x (a .1) in
-    (b .0, finish-stays d (swapped (gaveUp c es cs) c (walk c es cs)) (b .0) x (b .1))
+    (b .0, row-end-stays d (swapped (gaveUp c es cs) c (walk c es cs)) (b .0) x (b .1))

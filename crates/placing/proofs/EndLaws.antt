@@ -21,7 +21,7 @@ use Rattle.render.specs.declared.types.Options.{Options}
 use Rattle.render.specs.declared.types.DashStyle.{DashStyle}
 use Rattle.render.specs.declared.types.DashStyle.the-variants.{Persistent, Once}
 use Rattle.shaper.specs.declared.Shaper.{Shaper}
-use Rattle.placing.specs.Placing.{dashed}
+use Rattle.placing.specs.Placing.{solidOnce}
 use Rattle.placing.specs.Inner.{endedColumn, Ends}
 
 -- the slots as they are after the row
@@ -42,7 +42,7 @@ turned-live d zero l = refl
 turned-live d (suc n) [] = refl
 turned-live d (suc n) (s ∷ l) = ap (λ (r : List Column). endedColumn d (s .column) ∷ r) (turned-live d n l)
 
-ended-all : (d : DashStyle) (cs : List Column) → map (endedColumn d) cs ≡ map unblock (dashed d cs)
+ended-all : (d : DashStyle) (cs : List Column) → map (endedColumn d) cs ≡ map unblock (solidOnce d cs)
 ended-all Persistent [] = refl
 ended-all Persistent (c ∷ cs) = ap (λ (r : List Column). unblock c ∷ r) (ended-all Persistent cs)
 ended-all Once [] = refl
@@ -52,7 +52,7 @@ module _ (d : DashStyle) (given l : List Slot) (count n : ℕ) (long : length gi
   wide : length (map (turned d) given) ≡ columnLimit
   wide = length-map given (turned d) ∙ long
 
-  whole : live n l ≡ map unblock (dashed d (live count given))
+  whole : live n l ≡ map unblock (solidOnce d (live count given))
   whole =
       f .same
       ∙ turned-live d n given

@@ -15,7 +15,7 @@ use Rattle.render.specs.declared.types.Options.{Options}
 use Rattle.render.specs.declared.types.DashStyle.{DashStyle}
 use Rattle.render.specs.declared.types.DashStyle.the-variants.{Persistent, Once}
 use Rattle.shaper.specs.declared.Shaper.{Shaper}
-use Rattle.placing.specs.Placing.{columnOf, dashed}
+use Rattle.placing.specs.Placing.{columnOf, solidOnce}
 
 -- whether a column holds an entry's id
 abbrev pub holdsEntry : Entry → Column → Bool
@@ -38,7 +38,7 @@ endedColumn Once c = unblock (direct c)
 
 -- what ends a row: the columns by the definitions, the node's column and the options as they are; every slot past the count is Empty, whatever it was
 pub record Ends (slots : List Slot) (count column : ℕ) (o : Options) (r : Shaper) : Type 0 where
-  pub columns : live (r .count) (r .slots) ≡ reset (dashed (o .«graph_row_shape_style» .«dash_style») (live count slots))
+  pub columns : live (r .count) (r .slots) ≡ reset (solidOnce (o .«graph_row_shape_style» .«dash_style») (live count slots))
   pub fits : r .count ≤ columnLimit
   pub rest : SpareEmpty (r .count) (r .slots)
   pub previous : r .«previous_node_column» ≡ At column

@@ -82,9 +82,9 @@ place v n es = placeAt (nodeColumn v n) es (put (v .columns) (nodeColumn v n) Em
 -- ---- after the row
 
 -- "With Once dashes, Ancestor columns turn Parent after the row"
-abbrev pub dashed : DashStyle → List Column → List Column
-dashed Persistent cs = cs
-dashed Once cs = map direct cs
+abbrev pub solidOnce : DashStyle → List Column → List Column
+solidOnce Persistent cs = cs
+solidOnce Once cs = map direct cs
 
 -- ---- who draws in a column
 

@@ -18,7 +18,7 @@ use Rattle.render.specs.Refusals.{recordCutShort, tooManyParents, kindAboveLimi
 use Rattle.record.specs.declared.Outcome.{Outcome}
 use Rattle.record.specs.declared.Outcome.the-variants.{Ready, Ended, Refused}
 use Rattle.record.specs.declared.RecordAnswer.{RecordAnswer}
-use Rattle.record.specs.Record.{recordLength, parentLimit, parentCount, kindLimit, messageRoom, Written, writtenAt, writtenFrom, used, entryOf, entryPlace, anyAbove, upToZero, roomOf, RecordView, recordOf, noRecord, RecordReply, outcomeOf, recordChecks, nextRecord, outcomeNumber}
+use Rattle.record.specs.Record.{recordLength, parentLimit, parentCount, kindLimit, messageRoom, RawEntry, writtenAt, writtenFrom, used, entryOf, entryPlace, anyAbove, upToZero, roomOf, RecordView, recordOf, noRecord, RecordReply, outcomeOf, recordChecks, nextRecord, outcomeNumber}
 use Rattle.record.specs.Promises.{entry, entriesWith, padded, recordWith, recordViewOf, Records}
 
 -- ---- room that is filled from its start
@@ -50,7 +50,7 @@ module _ (s : List ℕ) where
   written-last k zero = let e : k ≡ k + 0 = omega arith in ap (λ (j : ℕ). writtenAt s j ∷ []) e
   written-last k (suc n) =
       let e : suc k + n ≡ k + suc n = omega arith in
-      ap (λ (l : List Written). writtenAt s k ∷ l) (written-last (suc k) n ∙ ap (λ (j : ℕ). writtenFrom s (suc k) n ++ (writtenAt s j ∷ [])) e)
+      ap (λ (l : List RawEntry). writtenAt s k ∷ l) (written-last (suc k) n ∙ ap (λ (j : ℕ). writtenFrom s (suc k) n ++ (writtenAt s j ∷ [])) e)
 
   pub written-length : (k n : ℕ) → length (writtenFrom s k n) ≡ n
   written-length k zero = refl

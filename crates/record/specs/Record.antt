@@ -42,25 +42,25 @@ abbrev pub entryPlace : ℕ → ℕ
 entryPlace k = 6 + 5 * k
 
 -- an entry as it is written: its kind byte and its id
-pub record Written : Type 0 where
+pub record RawEntry : Type 0 where
   pub kind : ℕ
   pub id : ℕ
 
 -- the k-th entry as it is written
-abbrev pub writtenAt : List ℕ → ℕ → Written
+abbrev pub writtenAt : List ℕ → ℕ → RawEntry
 writtenAt s k = record { kind = getD s (entryPlace k) 0; id = idAt s (entryPlace k + 1) }
 
 -- the first n entries; "Unused entries .. are ignored."
-abbrev pub writtenFrom : List ℕ → ℕ → ℕ → List Written
+abbrev pub writtenFrom : List ℕ → ℕ → ℕ → List RawEntry
 writtenFrom s k zero = []
 writtenFrom s k (suc n) = writtenAt s k ∷ writtenFrom s (suc k) n
 
 -- the entries that the parent count counts: "a used entry" (01, the table's row 11)
-abbrev pub used : List ℕ → List Written
+abbrev pub used : List ℕ → List RawEntry
 used s = writtenFrom s 0 (parentCount s)
 
 -- "kind 0 Anonymous, 1 Ancestor, 2 Parent"; ".. an Anonymous id [is] ignored."
-abbrev pub entryOf : Written → Entry
+abbrev pub entryOf : RawEntry → Entry
 entryOf w = cond (eqb (w .kind) 0) Anonymous (cond (eqb (w .kind) 1) (Indirect (w .id)) (Direct (w .id)))
 
 -- "kind above 2 in a used entry" (01, the table's row 11)
@@ -68,7 +68,7 @@ abbrev pub kindLimit : ℕ
 kindLimit = 2
 
 -- whether a kind is above n
-abbrev pub anyAbove : ℕ → List Written → Bool
+abbrev pub anyAbove : ℕ → List RawEntry → Bool
 anyAbove n [] = false
 anyAbove n (w ∷ ws) = ltb n (w .kind) || anyAbove n ws
 

@@ -18,7 +18,7 @@ use Rattle.render.specs.Refusals.{tooManyEntries, nodeLineTooWide, Check, _when
 use Rattle.shaper.specs.Shaper.{View, viewAfter, isNothing, refusedOptions}
 use Rattle.shaper.specs.NodeColumn.{head}
 use Rattle.cells.specs.Cells.{cellOf, cellsFrom}
-use Rattle.placing.specs.Placing.{dashed, Placed, place, kindOf, drawsAt}
+use Rattle.placing.specs.Placing.{solidOnce, Placed, place, kindOf, drawsAt}
 use Rattle.links.specs.Links.{boundsOf, isAt, linked}
 
 -- "The separator flag: no column held before, height at most 1, no staggering, same column as the previous node, no Anonymous entry."
@@ -78,7 +78,7 @@ rowChecks es p = (tooManyEntries when tooMany es) ∷ (nodeLineTooWide when ltb 
 
 -- the shaper after a row: "`reset` ends every row."
 abbrev pub rowAfter : View → Placed → View
-rowAfter v p = viewAfter v (reset (dashed (v .style .«dash_style») (p .settled))) (At (p .column))
+rowAfter v p = viewAfter v (reset (solidOnce (v .style .«dash_style») (p .settled))) (At (p .column))
 
 -- "A refusal gives its number, .. a shape without cells .., and changes no state"
 abbrev pub rowAnswer : ℕ → View → ℕ → List Entry → Placed → RowReply

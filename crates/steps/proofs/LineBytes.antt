@@ -9,7 +9,7 @@ use lib.Dec.{ltb}
 use lib.ListN.{length, take, drop, set, length-append, length-set}
 use Rattle.slices.specs.Joins.{over}
 use Rattle.slices.proofs.OverLaws.{over-one, part-written, part-length}
-use Rattle.steps.specs.Steps.{decimalIn, places, refusedWord, recordWords, refusedLine, lineRoom, refusedIn}
+use Rattle.steps.specs.Steps.{decimalIn, mostDigits, refusedWord, recordWords, refusedLine, lineRoom, refusedIn}
 
 -- ---- a number in decimal
 pub decimal-none : (k n : ℕ) → k ≡ 0 → decimalIn k n ≡ []
@@ -43,10 +43,10 @@ module _ (d : List ℕ) (n k : ℕ) where
     line-is = rw (le-ltb (length d) lineRoom h) refl
 
     abbrev first : List ℕ
-    first = refusedWord ++ decimalIn places n
+    first = refusedWord ++ decimalIn mostDigits n
 
     abbrev second : List ℕ
-    second = recordWords ++ decimalIn places k
+    second = recordWords ++ decimalIn mostDigits k
 
     pub line-parts : (first ++ second) ++ (0x0a ∷ []) ≡ refusedIn d n k
     line-parts = joined ∙ sym line-is

@@ -82,35 +82,35 @@ struct-short t long = go (t .«is_queued»)
     go false = zero-le
 
 module _ (v : View) (t : TextView) (few : QueueShort t) (q : Renderer) (n : ℕ) (es : List Entry) (mark : ℕ) (m out : List ℕ) where
-  abbrev placed : RowReply
-  placed = row v n es
+  abbrev rowed : RowReply
+  rowed = row v n es
 
   abbrev lines : List (List ℕ)
-  lines = textLines finish (glyphsOf q) t q (placed .shape) mark (linesOf m) (v .height)
+  lines = textLines finish (glyphsOf q) t q (rowed .shape) mark (linesOf m) (v .height)
 
   module _ (h : v .height ≤ heightLimit) (k : length m ≤ messageRoom) (o : pageRoom ≤ length out) where
-    pub has-room : placed .refusal ≡ 0 → length (textOf lines) ≤ length out
+    pub has-room : rowed .refusal ≡ 0 → length (textOf lines) ≤ length out
     has-room e =
-        let w : placed .shape .width ≤ columnLimit = row-fits v n es e in
+        let w : rowed .shape .width ≤ columnLimit = row-fits v n es e in
         omega (
           arith,
-          text-short finish trim-length (glyphsOf q) (glyph-short q) q (placed .shape) mark w t (linesOf m) (v .height) few,
+          text-short finish trim-length (glyphsOf q) (glyph-short q) q (rowed .shape) mark w t (linesOf m) (v .height) few,
           lines-few m,
           lines-within m,
         )
 
     -- the text call refuses what it refuses on an output of any length
-    pub same-refusal : refusal (textChecks mark m placed (textOf lines) out) ≡ refusal (drawnChecks mark m placed)
+    pub same-refusal : refusal (textChecks mark m rowed (textOf lines) out) ≡ refusal (drawnChecks mark m rowed)
     same-refusal =
-        numbers (not (isMark mark)) (ltb messageLimit (length m)) (not (allOf isWritable m)) (eqb (placed .refusal) 0) (ltb (length out) (length (textOf lines))) (placed .refusal) refl
-        (λ z. le-ltb (length out) (length (textOf lines)) (has-room (eqb-true (placed .refusal) 0 z)))
+        numbers (not (isMark mark)) (ltb messageLimit (length m)) (not (allOf isWritable m)) (eqb (rowed .refusal) 0) (ltb (length out) (length (textOf lines))) (rowed .refusal) refl
+        (λ z. le-ltb (length out) (length (textOf lines)) (has-room (eqb-true (rowed .refusal) 0 z)))
 
     pub page-has-room : text v t q n es mark m out .refusal ≢ outputShorterThanLines
     unfolding textWith
     page-has-room e =
-        not-eight (not (isMark mark)) (ltb messageLimit (length m)) (not (allOf isWritable m)) (eqb (placed .refusal) 0) (placed .refusal) (row-small v n es)
+        not-eight (not (isMark mark)) (ltb messageLimit (length m)) (not (allOf isWritable m)) (eqb (rowed .refusal) 0) (rowed .refusal) (row-small v n es)
         (sym same-refusal
-        ∙ sym (number-told (refusal (textChecks mark m placed (textOf lines) out)) lines out v (placed .view) t (textAfter (glyphsOf q) q (placed .shape) mark (linesOf m) (v .height)))
+        ∙ sym (number-told (refusal (textChecks mark m rowed (textOf lines) out)) lines out v (rowed .view) t (textAfter (glyphsOf q) q (rowed .shape) mark (linesOf m) (v .height)))
         ∙ e)
 
 -- ---- the listing

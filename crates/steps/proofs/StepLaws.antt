@@ -148,13 +148,13 @@ module _ (p : Progress) (d : Record) (out : List ℕ) where
   mark-stops b last r h = rw b h
 
   module _ (b : isMark (d .mark) ≡ true) (g : RowAnswer) (u : Rows (p .shaper) (d .id) (d .entries) g) where
-    abbrev placed : RowReply
-    placed = row (viewOf (p .shaper)) (d .id) (listed (d .entries))
+    abbrev rowGiven : RowReply
+    rowGiven = row (viewOf (p .shaper)) (d .id) (listed (d .entries))
 
-    rowed-is : record { refusal = g .refusal; shape = g .shape; view = viewOf (g .shaper) } ≡ placed
+    rowed-is : record { refusal = g .refusal; shape = g .shape; view = viewOf (g .shaper) } ≡ rowGiven
     rowed-is = u .reply
 
-    row-refusal : placed .refusal ≡ g .refusal
+    row-refusal : rowGiven .refusal ≡ g .refusal
     row-refusal = sym (ap (λ (r : RowReply). r .refusal) rowed-is)
 
     pub row-stops : (g .refusal ≡ 0 → ⊥) → (last : List ℕ) (r : Step) → Steps (stopped (progressViewOf p) (refusedIn out (g .refusal) (p .number))) p out last r
@@ -168,7 +168,7 @@ module _ (p : Progress) (d : Record) (out : List ℕ) where
 
     -- the row is accepted: what was written, or not
     module _ (z : g .refusal ≡ 0) (w : Written) (after : List ℕ) (y : answerOf w after ≡ listing (g .shape) (d .mark) out) where
-      shape-is : g .shape ≡ placed .shape
+      shape-is : g .shape ≡ rowGiven .shape
       shape-is = ap (λ (r : RowReply). r .shape) rowed-is
 
       abbrev bytes : List ℕ

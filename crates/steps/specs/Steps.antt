@@ -22,14 +22,14 @@ use Rattle.record.specs.Record.{RecordView, nextRecord}
 
 -- ---- the line that a refusal ends with
 
--- a number in decimal, if it has at most so many places
+-- a number in decimal, if it has at most so many digits
 abbrev pub decimalIn : ℕ → ℕ → List ℕ
 decimalIn zero n = []
 decimalIn (suc k) n = cond (ltb n 10) ((0x30 + n) ∷ []) (decimalIn k (n / 10) ++ ((0x30 + n % 10) ∷ []))
 
--- the most places of a number of 64 bits
-abbrev pub places : ℕ
-places = 20
+-- the most digits of a number of 64 bits
+abbrev pub mostDigits : ℕ
+mostDigits = 20
 
 -- `refused `
 abbrev pub refusedWord : List ℕ
@@ -41,7 +41,7 @@ recordWords = 0x20 ∷ 0x61 ∷ 0x74 ∷ 0x20 ∷ 0x72 ∷ 0x65 ∷ 0x63 ∷ 0x6
 
 -- "stop at a refusal with the line `refused N at record K`"
 abbrev pub refusedLine : ℕ → ℕ → List ℕ
-refusedLine n k = refusedWord ++ (decimalIn places n ++ (recordWords ++ (decimalIn places k ++ (newline ∷ []))))
+refusedLine n k = refusedWord ++ (decimalIn mostDigits n ++ (recordWords ++ (decimalIn mostDigits k ++ (newline ∷ []))))
 
 -- room for each such line; where there is less, nothing is written
 abbrev pub lineRoom : ℕ

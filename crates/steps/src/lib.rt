@@ -6,7 +6,7 @@ ghost use mathlib.Core.List.{_++_};
 ghost use Rattle.slices.specs.Joins.{over};
 ghost use Rattle.record.specs.Record.{messageRoom};
 ghost use Rattle.record.specs.Promises.{recordViewOf};
-ghost use Rattle.steps.specs.Steps.{decimalIn, places, refusedIn, next as nextOf, stopped, pageRow, listingRow, pageStep, listingStep};
+ghost use Rattle.steps.specs.Steps.{decimalIn, mostDigits, refusedIn, next as nextOf, stopped, pageRow, listingRow, pageStep, listingStep};
 ghost use Rattle.steps.specs.Promises.{progressViewOf, Begins, Steps};
 ghost use Rattle.steps.specs.Inner.{undrawn};
 use glyphs::Renderer;
@@ -28,8 +28,8 @@ use shaper::Shaper;
 use slices::write_bytes;
 use text::write_next_text;
 
-// The most decimal places of a number.
-const PLACES: usize = 20;
+// The most decimal digits of a number.
+const MOST_DIGITS: usize = 20;
 
 // Room for each line that says what was refused.
 pub const LINE_ROOM: usize = 64;
@@ -96,31 +96,31 @@ fn digit(n: u64) -> u8
     b'0' + n as u8
 }
 
-// Writes a number in decimal, if it has at most so many places, and gives their count.
-fn write_decimal(out: &mut [u8], n: u64, places: usize) -> usize
-    requires { ⌜ places ≤ length (now out) ⌝ }
-    ensures { λ r. ⌜ (r ≡ length (decimalIn places n)) × (r ≤ places) × (now (out .exit) ≡ over (decimalIn places n) (now (out .entry))) ⌝ }
+// Writes a number in decimal, if it has at most so many digits, and gives their count.
+fn write_decimal(out: &mut [u8], n: u64, most: usize) -> usize
+    requires { ⌜ most ≤ length (now out) ⌝ }
+    ensures { λ r. ⌜ (r ≡ length (decimalIn most n)) × (r ≤ most) × (now (out .exit) ≡ over (decimalIn most n) (now (out .entry))) ⌝ }
 {
-    if places == 0 {
+    if most == 0 {
         return 0;
     }
     if n < 10 {
         out[0] = digit(n);
         return 1;
     }
-    let at = write_decimal(out, n / 10, places - 1);
+    let at = write_decimal(out, n / 10, most - 1);
     out[at] = digit(n % 10);
     at + 1
 }
 
 // Writes some words and a number behind them, and gives the count of their bytes.
 fn write_number(out: &mut [u8], words: &[u8], n: u64) -> usize
-    requires { ⌜ length (now words) + places ≤ length (now out) ⌝ }
-    ensures { λ r. ⌜ (r ≡ length (now (words .entry) ++ decimalIn places n)) × (r ≤ length (now (words .entry)) + places)
-        × (now (out .exit) ≡ over (now (words .entry) ++ decimalIn places n) (now (out .entry))) ⌝ }
+    requires { ⌜ length (now words) + mostDigits ≤ length (now out) ⌝ }
+    ensures { λ r. ⌜ (r ≡ length (now (words .entry) ++ decimalIn mostDigits n)) × (r ≤ length (now (words .entry)) + mostDigits)
+        × (now (out .exit) ≡ over (now (words .entry) ++ decimalIn mostDigits n) (now (out .entry))) ⌝ }
 {
     let at = write_bytes(out, words);
-    at + write_decimal(&mut out[at..], n, PLACES)
+    at + write_decimal(&mut out[at..], n, MOST_DIGITS)
 }
 
 // Writes the line that says what was refused, if there is room for it, and gives the count of its bytes.

@@ -1,4 +1,4 @@
--- Writes a number in decimal, if it has at most so many places, and gives their count.
+-- Writes a number in decimal, if it has at most so many digits, and gives their count.
 use mathlib.Core.Path.{refl, ap, _∙_}
 use mathlib.Core.List.{[], _∷_, _++_}
 use native.Mathlib.Omega.{arith}
@@ -34,14 +34,14 @@ write-decimal-below t =
     (falls 1 write-decimal-kinds.ps _<_ μ-write-decimal t)
     write-decimal.Pre
 
--- what is asked and learnt of the two callees: `digit`, and itself with fewer places
+-- what is asked and learnt of the two callees: `digit`, and itself with fewer digits
 abbrev called : ℕ → In 0 digit-kinds.ps × Out 0 digit-kinds.ps digit-kinds.r × In 1 write-decimal-kinds.ps × Out 1 write-decimal-kinds.ps write-decimal-kinds.r
 called t = (digit-reads.Asked, digit-reads.Learnt, write-decimal-below t, write-decimal.Post)
 
 write-decimal-returns : (t : ℕ) → write-decimal-lts.Need-returns (called t) (write-decimal-at t) write-decimal.Post
 write-decimal-returns t c =
     let a = c .before .before .args in
-    let e = decimal-none (a .places) (a .n) (c .if1 .taken) in
+    let e = decimal-none (a .most) (a .n) (c .if1 .taken) in
     (rw e refl, search needs, rw e refl)
 
 write-decimal-digit-requires : (t : ℕ) → write-decimal-lts.Need-digit-requires (called t) (write-decimal-at t) write-decimal.Post
@@ -56,7 +56,7 @@ write-decimal-same-length t c = search needs
 write-decimal-returns-2 : (t : ℕ) → write-decimal-lts.Need-returns-2 (called t) (write-decimal-at t) write-decimal.Post
 write-decimal-returns-2 t c =
     let a = c .before .before .before .before .args in
-    let e = decimal-digit (a .places) (a .n) (c .before .before .if1 .left) (c .before .if2 .taken) in
+    let e = decimal-digit (a .most) (a .n) (c .before .before .if1 .left) (c .before .if2 .taken) in
     let h : 0 < length (a .out .now) = search needs in
     (rw e refl, search needs, rw e (over-one [] (a .out .now) (c .digit .result) refl refl h ∙ ap (λ (x : ℕ). over (x ∷ []) (a .out .now)) (c .digit .ensures)))
 
@@ -84,12 +84,12 @@ write-decimal-returns-3 t c =
     let at-if2 = c .before .before .before .before .before in
     let at-if1 = at-if2 .before in
     let a = at-if1 .before .before .args in
-    let e = decimal-more (a .places) (a .n) (at-if1 .if1 .left) (at-if2 .if2 .left) in
-    let l = length-append (decimalIn (a .places - 1) (a .n / 10)) ((0x30 + a .n % 10) ∷ []) in (
+    let e = decimal-more (a .most) (a .n) (at-if1 .if1 .left) (at-if2 .if2 .left) in
+    let l = length-append (decimalIn (a .most - 1) (a .n / 10)) ((0x30 + a .n % 10) ∷ []) in (
       rw e (omega (arith, w .ensures .0, l)),
       omega (arith, w .ensures .1, at-if1 .if1 .left),
-      rw e (over-one (decimalIn (a .places - 1) (a .n / 10)) (a .out .now) (c .digit2 .result) (w .ensures .2) (w .ensures .0) (omega (arith, w .ensures .0, w .ensures .1))
-          ∙ ap (λ (x : ℕ). over (decimalIn (a .places - 1) (a .n / 10) ++ (x ∷ [])) (a .out .now)) (c .digit2 .ensures)),
+      rw e (over-one (decimalIn (a .most - 1) (a .n / 10)) (a .out .now) (c .digit2 .result) (w .ensures .2) (w .ensures .0) (omega (arith, w .ensures .0, w .ensures .1))
+          ∙ ap (λ (x : ℕ). over (decimalIn (a .most - 1) (a .n / 10) ++ (x ∷ [])) (a .out .now)) (c .digit2 .ensures)),
     )
 
 pub +write-decimal-spec : {M : Type 1} → statement M

@@ -3,7 +3,7 @@ use native.Mathlib.Omega.{arith}
 use Prim.Native.Nat.{_≤_}
 use lib.ListN.{length, length-append}
 use Rattle.slices.proofs.OverLaws.{wrote-count, wrote, part-room, part-written}
-use Rattle.steps.specs.Steps.{decimalIn, places}
+use Rattle.steps.specs.Steps.{decimalIn, mostDigits}
 use borrow.Author.Needs.{needs}
 use Rattle.steps.proofs.write_number.Statement.{statement}
 use Rattle.steps.proofs.write_number.Tie as tie
@@ -51,7 +51,7 @@ returns c =
     let at-write-bytes = at-write-decimal .before .before .before .before in
     let start = at-write-bytes .before .before .before .before in
     let words = start .args .words .now in
-    let digits = decimalIn places (start .args .n) in
+    let digits = decimalIn mostDigits (start .args .n) in
     let b = at-write-bytes .write-bytes in
     let w = at-write-decimal .write-decimal in
     let room : length words ≤ length (start .args .out .now) = omega (arith, start .pre) in
