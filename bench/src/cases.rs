@@ -1,7 +1,8 @@
-//! What is timed: the row call and the text call, in three renderers, with 1, 3, 8 and 40 lines open and three messages.
+//! What is timed: the row call, the renderer call and the text call, in three renderers, with 1, 3, 8 and 40 lines open and three messages.
 
 use crate::histories;
 use crate::ours;
+use crate::ours::Form;
 use crate::refusals;
 use crate::rust;
 use crate::rust::Row;
@@ -15,11 +16,20 @@ pub const OUTPUT: usize = 64 * 1024;
 /// What a byte that nothing was written to holds.
 const UNWRITTEN: u8 = 0xa5;
 
-/// The call that is timed.
+/// The call that is timed: the row call alone, the row and the renderer call, or the text call.
 #[derive(Clone)]
 pub enum Call {
-    Row,
-    Text { renderer: u8, message: String },
+    Row {
+        form: Form,
+    },
+    Lines {
+        renderer: u8,
+    },
+    Text {
+        form: Form,
+        renderer: u8,
+        message: String,
+    },
 }
 
 /// A call on a history.
@@ -44,18 +54,34 @@ fn messages() -> [(&'static str, String); 3] {
     ]
 }
 
-/// Every call with its name.
+/// Every call with its name: the cores first, then the public calls in their lent forms.
 pub fn calls() -> Vec<(String, Call)> {
-    let mut calls = vec![("row".to_owned(), Call::Row)];
+    let mut calls = vec![("row".to_owned(), Call::Row { form: Form::Core })];
+    for (name, renderer) in RENDERERS {
+        calls.push((format!("lines, {name}"), Call::Lines { renderer }));
+    }
     for (name, renderer) in RENDERERS {
         for (kind, message) in messages() {
-            calls.push((
-                format!("text, {name}, {kind}"),
-                Call::Text { renderer, message },
-            ));
+            let call = text(Form::Core, renderer, &message);
+            calls.push((format!("text, {name}, {kind}"), call));
         }
     }
+    calls.push(("lent row".to_owned(), Call::Row { form: Form::Lent }));
+    let [(kind, message), ..] = messages();
+    for (name, renderer) in RENDERERS {
+        let call = text(Form::Lent, renderer, &message);
+        calls.push((format!("lent text, {name}, {kind}"), call));
+    }
     calls
+}
+
+/// A text call with this message.
+fn text(form: Form, renderer: u8, message: &str) -> Call {
+    Call::Text {
+        form,
+        renderer,
+        message: message.to_owned(),
+    }
 }
 
 /// The call with every number of open lines that has this number, if there are so many.
@@ -91,26 +117,20 @@ impl Case {
 
     /// Our calls, from a new shaper on.
     pub fn ours(&mut self) {
-        let drawn = match &self.call {
-            Call::Row => ours::shapes(&self.records, false, &mut self.output),
-            Call::Text { renderer, message } => ours::text(
-                &self.records,
-                message.as_bytes(),
-                *renderer,
-                false,
-                &mut self.output,
-            ),
-        };
+        let drawn = drawn(&self.call, &self.records, false, &mut self.output);
         assert_eq!(drawn, self.rows.len(), "a row was refused");
     }
 
     /// The Rust's calls, from a new shaper on.
     pub fn rust(&mut self) {
         match &self.call {
-            Call::Row => rust::shapes(&self.rows),
-            Call::Text { renderer, message } => {
-                rust::text(&self.rows, message, *renderer, false, &mut self.text)
+            Call::Row { .. } => rust::shapes(&self.rows),
+            Call::Lines { renderer } => {
+                rust::lines(&self.rows, *renderer, false, &mut self.text);
             }
+            Call::Text {
+                renderer, message, ..
+            } => rust::text(&self.rows, message, *renderer, false, &mut self.text),
         }
     }
 
@@ -119,7 +139,7 @@ impl Case {
         let (expected, last) = self.expected();
         for spare in [OUTPUT, 0] {
             let mut out = vec![UNWRITTEN; expected.len() + spare];
-            let drawn = self.kept(&mut out);
+            let drawn = drawn(&self.call, &self.records, true, &mut out);
             let same = out[..expected.len()] == expected[..];
             let clean = out[expected.len()..].iter().all(|byte| *byte == UNWRITTEN);
             self.expect(drawn == self.rows.len() && same && clean);
@@ -134,26 +154,30 @@ impl Case {
         assert!(same, "{name}, {lines} lines open: the two sides differ");
     }
 
-    /// Writes what ours gives for all rows, each behind the one before it, and gives the count of the rows.
-    fn kept(&self, out: &mut [u8]) -> usize {
-        match &self.call {
-            Call::Row => ours::shapes(&self.records, true, out),
-            Call::Text { renderer, message } => {
-                ours::text(&self.records, message.as_bytes(), *renderer, true, out)
-            }
-        }
-    }
-
     /// What the Rust gives for all rows, and for the last one alone what ours leaves at the head of its output.
     fn expected(&mut self) -> (Vec<u8>, Vec<u8>) {
+        let mut all = String::new();
         match &self.call {
-            Call::Row => (rust::shape_bytes(&self.rows), Vec::new()),
-            Call::Text { renderer, message } => {
-                let mut all = String::new();
-                rust::text(&self.rows, message, *renderer, true, &mut all);
-                rust::text(&self.rows, message, *renderer, false, &mut self.text);
-                (all.into_bytes(), self.text.clone().into_bytes())
-            }
+            Call::Row { .. } => return (rust::shape_bytes(&self.rows), Vec::new()),
+            Call::Lines { renderer } => rust::lines(&self.rows, *renderer, true, &mut all),
+            Call::Text {
+                renderer, message, ..
+            } => rust::text(&self.rows, message, *renderer, true, &mut all),
         }
+        self.rust();
+        (all.into_bytes(), self.text.clone().into_bytes())
+    }
+}
+
+/// Makes our call on every record, what it writes behind what it wrote before if it is kept, and gives the count of the rows drawn.
+fn drawn(call: &Call, records: &[u8], kept: bool, out: &mut [u8]) -> usize {
+    match call {
+        Call::Row { form } => ours::shapes(*form, records, kept, out),
+        Call::Lines { renderer } => ours::lines(records, *renderer, kept, out),
+        Call::Text {
+            form,
+            renderer,
+            message,
+        } => ours::text(*form, records, message.as_bytes(), *renderer, kept, out),
     }
 }

@@ -21,14 +21,60 @@ extern "C" {
         out: *mut u8,
         out_length: usize,
     ) -> usize;
+
+    fn whole_history_lines(
+        records: *const u8,
+        records_length: usize,
+        renderer: u8,
+        kept: bool,
+        out: *mut u8,
+        out_length: usize,
+    ) -> usize;
+
+    fn whole_history_lent_text(
+        records: *const u8,
+        records_length: usize,
+        message: *const u8,
+        message_length: usize,
+        renderer: u8,
+        kept: bool,
+        out: *mut u8,
+        out_length: usize,
+    ) -> usize;
+
+    fn whole_history_lent_shapes(
+        records: *const u8,
+        records_length: usize,
+        kept: bool,
+        out: *mut u8,
+        out_length: usize,
+    ) -> usize;
+}
+
+/// Which of our calls is made: the core, by value, or the public call, on lent states and a lent list of entries.
+#[derive(Clone, Copy, PartialEq, Eq)]
+pub enum Form {
+    Core,
+    Lent,
 }
 
 /// The text call on every record, and how many of them were drawn.
-pub fn text(records: &[u8], message: &[u8], renderer: u8, kept: bool, out: &mut [u8]) -> usize {
+pub fn text(
+    form: Form,
+    records: &[u8],
+    message: &[u8],
+    renderer: u8,
+    kept: bool,
+    out: &mut [u8],
+) -> usize {
     let (records, out) = (black_box(records), black_box(out));
+    let call = match form {
+        Form::Core => whole_history_text,
+        Form::Lent => whole_history_lent_text,
+    };
     // SAFETY: a slice is passed as its pointer and its length, and the callee keeps neither.
     unsafe {
-        whole_history_text(
+        call(
             records.as_ptr(),
             records.len(),
             message.as_ptr(),
@@ -42,13 +88,33 @@ pub fn text(records: &[u8], message: &[u8], renderer: u8, kept: bool, out: &mut 
 }
 
 /// The row call on every record, and how many of them were given a shape.
-pub fn shapes(records: &[u8], kept: bool, out: &mut [u8]) -> usize {
+pub fn shapes(form: Form, records: &[u8], kept: bool, out: &mut [u8]) -> usize {
+    let (records, out) = (black_box(records), black_box(out));
+    let call = match form {
+        Form::Core => whole_history_shapes,
+        Form::Lent => whole_history_lent_shapes,
+    };
+    // SAFETY: as above.
+    unsafe {
+        call(
+            records.as_ptr(),
+            records.len(),
+            kept,
+            out.as_mut_ptr(),
+            out.len(),
+        )
+    }
+}
+
+/// The row call on every record and the renderer call on its shape, and how many of them were drawn.
+pub fn lines(records: &[u8], renderer: u8, kept: bool, out: &mut [u8]) -> usize {
     let (records, out) = (black_box(records), black_box(out));
     // SAFETY: as above.
     unsafe {
-        whole_history_shapes(
+        whole_history_lines(
             records.as_ptr(),
             records.len(),
+            renderer,
             kept,
             out.as_mut_ptr(),
             out.len(),

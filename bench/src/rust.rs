@@ -6,6 +6,7 @@ use crate::codes;
 use crate::output::OutputRendererOptions;
 use crate::pipeline::graph_text_renderer::GraphTextRenderer;
 use crate::pipeline::graph_to_row_shape::GraphRowShaper;
+use crate::pipeline::prefix_lines_to_text;
 use crate::pipeline::types::GraphRowShape;
 use crate::records;
 use crate::refusals;
@@ -70,6 +71,26 @@ pub fn text(rows: &[Row], message: &str, code: u8, kept: bool, out: &mut String)
             out.clear();
         }
         renderer.write_next_text(out, row.node, row.parents(), &row.mark, message);
+        black_box(&mut *out);
+    }
+}
+
+/// Every row's prefix lines into `out`, which is emptied before each row unless they are kept: each line as its kind letter, the line with
+/// the mark in place, and a line end.
+#[inline(never)]
+pub fn lines(rows: &[Row], code: u8, kept: bool, out: &mut String) {
+    let mut shaper = GraphRowShaper::with_options(options());
+    let mut renderer = codes::renderer(code);
+    for row in black_box(rows) {
+        if !kept {
+            out.clear();
+        }
+        let shape = shaper.next_row_shape(row.node, row.parents());
+        for line in renderer.next_prefix_lines(&shape) {
+            out.push(codes::kind_letter(line.kind));
+            out.push_str(&prefix_lines_to_text::join(&line, &row.mark));
+            out.push('\n');
+        }
         black_box(&mut *out);
     }
 }

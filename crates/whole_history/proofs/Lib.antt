@@ -3,3 +3,4 @@ pub mod RunLaws
 pub mod ShapeLaws
 pub mod TextTurn
 pub mod ShapeTurn
+pub mod LinesTurn

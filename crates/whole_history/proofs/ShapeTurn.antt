@@ -32,7 +32,7 @@ use Rattle.whole_history.proofs.RunLaws.{place-kept, place-left, part-l
 use Rattle.whole_history.proofs.ShapeLaws.{cell-length, shape-some, put-none, put-done, node-cell, node-none}
 
 -- what the loop keeps, in the definition's words
-abbrev stateOf : Shaper → ℕ → List ℕ → State
+abbrev pub stateOf : Shaper → ℕ → List ℕ → State
 stateOf s from out = record { view = viewOf s; text = beginning .text; from = from; output = out }
 
 -- the bytes that are written of a shape
@@ -40,6 +40,10 @@ abbrev pub bytesOf : Bool → RowShape → List ℕ
 bytesOf kept g = cond kept (shapeBytes g) (nodeBytes g)
 
 -- ---- what the call's promise says in the words of a whole history
+pub row-replied : (s : Shaper) (b : List ℕ) (g : RowAnswer) {n : ℕ} {es : Entries} → n ≡ idAt b 0 → es ≡ entriesWith (entriesOf b) → Rows s n es g
+    → rowReplyOf g ≡ row (viewOf s) (idAt b 0) (entriesOf b)
+row-replied s b g i e u = u .reply ∙ rw (i, listed-read b e) refl
+
 module _ (s : Shaper) (kept : Bool) (from : ℕ) (out b : List ℕ) (g : RowAnswer) {n : ℕ} {es : Entries}
     (i : n ≡ idAt b 0) (e : es ≡ entriesWith (entriesOf b)) (u : Rows s n es g) where
   -- a step, by what the row call gave
@@ -49,11 +53,8 @@ module _ (s : Shaper) (kept : Bool) (from : ℕ) (out b : List ℕ) (g : RowAnsw
       (some (record { view = r .view; text = beginning .text; from = placeAfter kept from (length (bytesOf kept (r .shape))); output = take from out ++ over (bytesOf kept (r .shape)) (drop from out) }))
       none
 
-  replied : rowReplyOf g ≡ row (viewOf s) (idAt b 0) (entriesOf b)
-  replied = u .reply ∙ rw (i, listed-read b e) refl
-
   step-is : shapeStep kept (stateOf s from out) b ≡ stepBy (rowReplyOf g)
-  step-is = ap stepBy (sym replied)
+  step-is = ap stepBy (sym (row-replied s b g i e u))
 
   refused : (g .refusal ≡ 0 → ⊥) → shapeStep kept (stateOf s from out) b ≡ none
   refused z = step-is ∙ rw (ne-eqb (g .refusal) 0 z) refl

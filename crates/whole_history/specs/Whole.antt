@@ -1,4 +1,4 @@
--- Whole histories, as bench runs them: the text call or the row call on every record, one after the other.
+-- Whole histories, as bench runs them: the text call, the row call, or the row call and the renderer call on every record, one after the other.
 use Prim.Native.Nat.{ℕ, suc, _+_, _/_, min}
 use mathlib.Core.Bool.{Bool, cond, _&&_}
 use mathlib.Core.List.{List, [], _∷_, _++_, map}
@@ -11,6 +11,7 @@ use Rattle.row_shape.specs.Row.{RowReply, row}
 use Rattle.glyphs.specs.declared.Renderer.{Renderer}
 use Rattle.glyphs.specs.declared.Renderer.the-variants.{Ascii, AsciiLarge, Square, Curved, Dec}
 use Rattle.slices.specs.Joins.{over}
+use Rattle.prefix_lines.specs.PrefixLines.{Answer, nextPrefixLines}
 use Rattle.output.specs.Output.{TextView}
 use Rattle.text.specs.Text.{TextReply, text}
 use Rattle.record.specs.Record.{recordLength, pieces, idAt, markOf, parentCount, parentLimit, writtenFrom, entryOf}
@@ -63,7 +64,7 @@ abbrev pub rowsOf : (State → List ℕ → Option State) → ℕ → List (List
 rowsOf step n [] s = record { rows = n; output = s .output }
 rowsOf step n (b ∷ bs) s = onward (step s b) (rowsOf step (suc n) bs) (record { rows = n; output = s .output })
 
--- ---- the two calls
+-- ---- the calls
 
 -- the text call on a record, with the message in the place of the record's own; nothing where it is refused
 abbrev pub textStep : Renderer → Bool → List ℕ → State → List ℕ → Option State
@@ -83,6 +84,15 @@ shapeStep kept s b =
     (some (record { view = r .view; text = s .text; from = placeAfter kept (s .from) (length bytes); output = take (s .from) (s .output) ++ over bytes room }))
     none
 
+-- the row call on a record and the renderer call on its shape, with the record's mark; nothing where either is refused
+abbrev pub linesStep : Renderer → Bool → State → List ℕ → Option State
+linesStep q kept s b =
+    let r : RowReply = row (s .view) (idAt b 0) (entriesOf b) in
+    let a : Answer = nextPrefixLines (r .shape) q (markOf b) (drop (s .from) (s .output)) in
+    cond (eqb (r .refusal) 0 && eqb (a .refusal) 0)
+    (some (record { view = r .view; text = s .text; from = placeAfter kept (s .from) (a .length); output = take (s .from) (s .output) ++ a .output }))
+    none
+
 -- the texts of a whole history
 unfoldable pub wholeText : List ℕ → List ℕ → ℕ → Bool → List ℕ → Whole
 wholeText records message renderer kept out = rowsOf (textStep (rendererOf renderer) kept message) 0 (recordsOf records) (start out)
@@ -90,3 +100,7 @@ wholeText records message renderer kept out = rowsOf (textStep (rendererOf rende
 -- the shapes of a whole history
 unfoldable pub wholeShapes : List ℕ → Bool → List ℕ → Whole
 wholeShapes records kept out = rowsOf (shapeStep kept) 0 (recordsOf records) (start out)
+
+-- the prefix lines of a whole history
+unfoldable pub wholeLines : List ℕ → ℕ → Bool → List ℕ → Whole
+wholeLines records renderer kept out = rowsOf (linesStep (rendererOf renderer) kept) 0 (recordsOf records) (start out)

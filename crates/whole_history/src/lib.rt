@@ -1,4 +1,5 @@
-// Whole histories: the row call and the text call on every record of a history, for bench, which times them beside the Rust.
+// Whole histories: the row call, the renderer call and the text call on every record of a history, for bench, which times them beside the
+// Rust.
 ghost use mathlib.Core.Path.{_≡_};
 ghost use Prim.Native.Nat.{_+_, _≤_, _%_};
 ghost use lib.ListN.{length};
@@ -6,9 +7,10 @@ ghost use Rattle.slices.specs.Joins.{Writes};
 ghost use Rattle.record.specs.Record.{recordLength, idAt, entryOf};
 ghost use Rattle.record.specs.Promises.{entriesWith};
 ghost use Rattle.whole_history.specs.Shapes.{flag as flagOf, nodeNumber, padNumber, cellBytes, headBytes, shapeBytes};
-ghost use Rattle.whole_history.specs.Whole.{entriesOf, rendererOf, wholeText, wholeShapes};
+ghost use Rattle.whole_history.specs.Whole.{entriesOf, rendererOf, wholeText, wholeShapes, wholeLines};
 use column::COLUMN_LIMIT;
 use glyphs::Renderer;
+use prefix_lines::next_prefix_lines;
 use record::PARENT_LIMIT;
 use record::RECORD;
 use render::Ancestor;
@@ -285,6 +287,44 @@ pub extern "C" fn whole_history_shapes(records: &[u8], kept: bool, out: &mut [u8
             }
             let cell = cell_bytes(shape.cells[column]);
             write_bytes(&mut out[from..], &cell);
+        }
+        rows = drawn;
+    }
+    rows
+}
+
+// The row call on each record and the renderer call on its shape: each row's lines behind those before them if they are kept, else each
+// at the output's beginning. Ends at the first row that either call refuses, and gives the count of those before it.
+#[no_mangle]
+pub extern "C" fn whole_history_lines(
+    records: &[u8],
+    renderer: u8,
+    kept: bool,
+    out: &mut [u8],
+) -> usize
+    ensures { λ r. ⌜ wholeLines (now (records .entry)) renderer kept (now (out .entry)) ≡ record { rows = r; output = now (out .exit) } ⌝ }
+{
+    let drawing = renderer_of(renderer);
+    let begun = steps::begin();
+    let mut shaper = begun.shaper;
+    let mut from: usize = 0;
+    let mut rows: usize = 0;
+    while RECORD <= records.len() - RECORD * rows {
+        let at = RECORD * rows;
+        let drawn = rows + 1;
+        let bytes = &records[at..at + RECORD];
+        let given = next_row_shape(shaper, id_at(bytes, 0), entries_of(bytes));
+        if given.refusal != 0 {
+            return rows;
+        }
+        shaper = given.shaper;
+        let shape = given.shape;
+        let written = next_prefix_lines(shape, drawing, bytes[MARK_AT], &mut out[from..]);
+        if written.refusal != 0 {
+            return rows;
+        }
+        if kept {
+            from += written.length;
         }
         rows = drawn;
     }
