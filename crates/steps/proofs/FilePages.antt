@@ -1,16 +1,17 @@
 -- The page of a file is the drawn text of its records with the line of the refusal behind it at which it stops.
 use mathlib.Core.Path.{_≡_, refl, sym, ap, _∙_}
+use mathlib.Core.Logic.{_⊎_, inl, inr}
 use mathlib.Core.Bool.{Bool, true, false, cond, not}
 use mathlib.Core.List.{List, [], _∷_, _++_, append-assoc, append-nil}
-use Prim.Native.Nat.{ℕ, zero, suc, _≤_, zero-le}
+use Prim.Native.Nat.{ℕ, zero, suc, _*_, _/_, _<_, _≤_, zero-le}
 use native.Mathlib.Omega.{arith}
-use borrow.Author.Tests.{eqb-true}
+use borrow.Author.Tests.{eqb-true, lt-ltb, ltb-true, ltb-false}
 use lib.Dec.{ltb, eqb}
 use lib.ListN.{length, take, drop, replicate, length-append, length-drop, length-take, length-replicate}
 use lib.Seq.{take-append-seam}
 use Rattle.render.specs.declared.render.Ancestor.{Ancestor as Entry}
 use Rattle.render.specs.Mark.{isMark}
-use Rattle.render.specs.Refusals.{notRefused, markOutsideSpan, messageTooLong, messageByteNotWritable, refusal}
+use Rattle.render.specs.Refusals.{notRefused, markOutsideSpan, messageTooLong, messageByteNotWritable, recordCutShort, refusal}
 use Rattle.shaper.specs.Shaper.{View, heightLimit}
 use Rattle.placing.specs.Placing.{place}
 use Rattle.row_shape.specs.Row.{RowReply, rowAnswer, rowChecks, row}
@@ -24,9 +25,9 @@ use Rattle.output.specs.Output.{finish, textOf, TextView}
 use Rattle.text.specs.Text.{textLines, textAfter, drawnChecks, textAnswer, TextReply, textWith, upToRefusal, drawnFrom, drawnText}
 use Rattle.record.specs.declared.Outcome.{Outcome}
 use Rattle.record.specs.declared.Outcome.the-variants.{Ready, Ended, Refused}
-use Rattle.record.specs.Record.{messageRoom, roomOf, upToZero, RecordView, recordChecks, outcomeOf, outcomeRecord, nextRecord}
-use Rattle.steps.specs.Steps.{refusedIn, refusedLine, ProgressView, programOptions, beginning, next, StepReply, stopped, stepped, pageRow, onRecord, pageStep}
-use Rattle.steps.specs.Files.{readsOf, stepByStep, pageRoom, pageOf, callsOn, callsFrom, callsOf, stopOn, stopFrom, stopOf}
+use Rattle.record.specs.Record.{recordLength, pieces, messageRoom, roomOf, upToZero, RecordView, recordChecks, outcomeOf, outcomeRecord, nextRecord}
+use Rattle.steps.specs.Steps.{refusedIn, refusedLine, ProgressView, programOptions, beginning, next, StepReply, stopped, stepped, pageRow, listingRow, onRecord, pageStep, listingStep}
+use Rattle.steps.specs.Files.{readsOf, stepByStep, pageRoom, listingRoom, pageOf, listingOf, callsOn, callsFrom, callsOf, stopOn, stopFrom, stopOf}
 use Rattle.steps.proofs.LineBytes.{line-is}
 use Rattle.steps.proofs.Lengths.{glyph-short, queued-short}
 use Rattle.steps.proofs.Room.{QueueShort, same-refusal}
@@ -162,3 +163,49 @@ page-from (piece ∷ rest) p out few low room = page-next piece rest (page-from 
 -- ---- the whole file
 pub page-is : (file : List ℕ) → pageOf file ≡ drawnText programOptions (glyphsOf Curved) Curved (callsOf file) ++ stopOf file
 page-is file = page-from (readsOf file) beginning (replicate pageRoom 0) zero-le (omega arith) (omega (arith, length-replicate {A = ℕ} pageRoom 0))
+
+-- ---- what is read is enough: a program that reads on, nothing being left, writes nothing more
+short-stops : (piece : List ℕ) → length piece < recordLength → (nextRecord piece .outcome ≡ Ended) ⊎ (nextRecord piece .outcome ≡ Refused recordCutShort)
+unfolding nextRecord
+short-stops [] h = inl refl
+short-stops (b ∷ s) h = inr (rw (lt-ltb 0 (length (b ∷ s)) (omega arith), lt-ltb (length (b ∷ s)) recordLength h) refl)
+
+module _ (draws : ProgressView → RecordView → List ℕ → StepReply) where
+  abbrev stepOn : ProgressView → List ℕ → List ℕ → StepReply
+  stepOn p piece out = onRecord draws p out (nextRecord piece .outcome) (nextRecord piece .view)
+
+  stopped-there : (p : ProgressView) (piece out : List ℕ) → length piece < recordLength → stepOn p piece out .goesOn ≡ false
+  stopped-there p piece out h = go (short-stops piece h)
+    where
+      go : (nextRecord piece .outcome ≡ Ended) ⊎ (nextRecord piece .outcome ≡ Refused recordCutShort) → stepOn p piece out .goesOn ≡ false
+      go (inl e) = rw e refl
+      go (inr e) = rw e refl
+
+  last : (piece : List ℕ) (rest others : List (List ℕ)) (p : ProgressView) (out : List ℕ) → stepOn p piece out .goesOn ≡ false
+      → stepByStep stepOn p out (piece ∷ rest) ≡ stepByStep stepOn p out (piece ∷ others)
+  last piece rest others p out e = rw e refl
+
+  -- two counts of pieces, each with room for more than the file
+  enough : (m n : ℕ) (p : ProgressView) (out file : List ℕ) → length file < recordLength * m → length file < recordLength * n
+      → stepByStep stepOn p out (pieces m file) ≡ stepByStep stepOn p out (pieces n file)
+  enough zero n p out file h k = absurd (omega (arith, h))
+  enough (suc m) zero p out file h k = absurd (omega (arith, k))
+  enough (suc m) (suc n) p out file h k = go (ltb (length file) recordLength) refl (enough m n)
+    where
+      go : (b : Bool) → ltb (length file) recordLength ≡ b
+          → ((p : ProgressView) (out file : List ℕ) → length file < recordLength * m → length file < recordLength * n → stepByStep stepOn p out (pieces m file) ≡ stepByStep stepOn p out (pieces n file))
+          → stepByStep stepOn p out (pieces (suc m) file) ≡ stepByStep stepOn p out (pieces (suc n) file)
+      go true e behind =
+          last (take recordLength file) (pieces m (drop recordLength file)) (pieces n (drop recordLength file)) p out
+          (stopped-there p (take recordLength file) out (omega (arith, ltb-true (length file) recordLength e, length-take recordLength file)))
+      go false e behind =
+          let s : StepReply = stepOn p (take recordLength file) out in
+          let l : recordLength ≤ length file = ltb-false (length file) recordLength e in
+          ap (λ (x : List ℕ). s .written ++ cond (s .goesOn) x [])
+          (behind (s .after) (over (s .written) out) (drop recordLength file) (omega (arith, h, l, length-drop recordLength file)) (omega (arith, k, l, length-drop recordLength file)))
+
+pub page-ends : (n : ℕ) (file : List ℕ) → length file < recordLength * n → stepByStep pageStep beginning (replicate pageRoom 0) (pieces n file) ≡ pageOf file
+page-ends n file h = enough pageRow n (suc (length file / recordLength)) beginning (replicate pageRoom 0) file h (omega arith)
+
+pub listing-ends : (n : ℕ) (file : List ℕ) → length file < recordLength * n → stepByStep listingStep beginning (replicate listingRoom 0) (pieces n file) ≡ listingOf file
+listing-ends n file h = enough listingRow n (suc (length file / recordLength)) beginning (replicate listingRoom 0) file h (omega arith)
