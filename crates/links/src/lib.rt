@@ -1,7 +1,7 @@
 // The marks of a row's link line, after graph_to_row_shape.rs.
 ghost use mathlib.Core.Path.{_≡_};
 ghost use mathlib.Core.Bool.{true, cond};
-ghost use Prim.Native.Nat.{_+_, min, max};
+ghost use Prim.Native.Nat.{_+_, min};
 ghost use lib.Dec.{ltb};
 ghost use Rattle.render.specs.Link.{strokes};
 ghost use Rattle.links.specs.Links.{drawnBy, isDrawn, isDirectlyDrawn, isIndirectlyDrawn, isAnonymouslyDrawn, foundAs, isAt, boundsOf, passesSolid, passesDashed, fromNode, withUprights, linked};
@@ -11,6 +11,8 @@ use column::Column;
 use column::Found;
 use render::Ancestor;
 use render::Marks;
+use slices::greater;
+use slices::lesser;
 
 // Who draws in a column, by its kind: the last entry that met it, an Anonymous one too, or nobody.
 pub enum Drawn {
@@ -126,18 +128,6 @@ fn pick(first: bool, a: usize, b: usize) -> usize
     if first { a } else { b }
 }
 
-fn least(a: usize, b: usize) -> usize
-    ensures { λ r. ⌜ r ≡ min a b ⌝ }
-{
-    if a < b { a } else { b }
-}
-
-fn greatest(a: usize, b: usize) -> usize
-    ensures { λ r. ⌜ r ≡ max a b ⌝ }
-{
-    if a < b { b } else { a }
-}
-
 impl AncestorColumnBounds {
     // The bounds with one more column, in which an entry draws.
     fn reaching(self, index: usize, drawn: Drawn) -> AncestorColumnBounds
@@ -148,10 +138,10 @@ impl AncestorColumnBounds {
         let direct = pick(drawn.is_direct(), index, target);
         AncestorColumnBounds {
             target,
-            min_ancestor: least(self.min_ancestor, any),
-            min_parent: least(self.min_parent, direct),
-            max_parent: greatest(self.max_parent, direct),
-            max_ancestor: greatest(self.max_ancestor, any),
+            min_ancestor: lesser(self.min_ancestor, any),
+            min_parent: lesser(self.min_parent, direct),
+            max_parent: greater(self.max_parent, direct),
+            max_ancestor: greater(self.max_ancestor, any),
         }
     }
 
@@ -198,7 +188,7 @@ impl AncestorColumnBounds {
         let first = self.min_ancestor;
         let given_up = swap.given_up;
         match given_up {
-            Found::At(place) => least(place, first),
+            Found::At(place) => lesser(place, first),
             Found::Nothing => first,
         }
     }
@@ -210,7 +200,7 @@ impl AncestorColumnBounds {
         let last = self.max_ancestor;
         let given_up = swap.given_up;
         match given_up {
-            Found::At(place) => greatest(place, last),
+            Found::At(place) => greater(place, last),
             Found::Nothing => last,
         }
     }

@@ -14,6 +14,7 @@ use render::Ancestor;
 use render::DashStyle;
 use render::Options;
 use shaper::Shaper;
+use slices::lesser;
 
 // The column that an entry merges as.
 fn ancestor_to_column(ancestor: Ancestor) -> Column
@@ -88,7 +89,7 @@ pub fn entered(slot: Slot, index: usize, count: usize, ancestor: Ancestor) -> Sl
 pub fn placeholder(count: usize, column: usize) -> usize
     ensures { λ r. ⌜ r ≡ min count column ⌝ }
 {
-    if count < column { count } else { column }
+    lesser(count, column)
 }
 
 // What stood in a column before the entries, where `count` were live: the node's own is Empty then, as is one past the count.
