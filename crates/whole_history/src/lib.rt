@@ -7,15 +7,13 @@ ghost use lib.ListN.{length, take};
 ghost use Rattle.slices.specs.Joins.{Writes};
 ghost use Rattle.render.specs.Entries.{entryLimit};
 ghost use Rattle.row_shape.specs.Promises.{Rows};
-ghost use Rattle.text.specs.Promises.{Texts};
-ghost use Rattle.lineage.specs.Promises.{LentRows, LentTexts};
+ghost use Rattle.lineage.specs.Promises.{LentRows};
 ghost use Rattle.record.specs.Record.{recordLength, idAt, entryOf};
 ghost use Rattle.record.specs.Promises.{entriesWith};
 ghost use Rattle.whole_history.specs.Shapes.{flag as flagOf, nodeNumber, padNumber, cellBytes, headBytes, shapeBytes};
 ghost use Rattle.whole_history.specs.Whole.{entriesOf, rendererOf, wholeText, wholeShapes, wholeLines};
 use column::COLUMN_LIMIT;
 use glyphs::Renderer;
-use output::TextState;
 use prefix_lines::next_prefix_lines;
 use record::PARENT_LIMIT;
 use record::RECORD;
@@ -32,7 +30,6 @@ use row_shape::next_row_shape;
 use shaper::Shaper;
 use slices::lesser;
 use slices::write_bytes;
-use text::TextAnswer;
 use text::write_next_text;
 
 // Where the mark, the parent count and the entries stand in a record.
@@ -231,40 +228,6 @@ fn row_with(mut shaper: Shaper, node: u32, list: [Entry; ENTRY_LIMIT], count: us
     }
 }
 
-// The text call on a lent shaper, a lent text state and a lent list: a shaper and a state of its own and the first entries of an array.
-fn text_with(
-    mut shaper: Shaper,
-    mut state: TextState,
-    renderer: Renderer,
-    node: u32,
-    list: [Entry; ENTRY_LIMIT],
-    count: usize,
-    mark: u8,
-    message: &[u8],
-    out: &mut [u8],
-) -> TextAnswer
-    requires { ⌜ count ≤ entryLimit ⌝ }
-    ensures { λ r. ⌜ LentTexts shaper state renderer node (take count list) mark (now (message .entry)) (now (out .entry)) (r .shaper) (r .state) (now (out .exit)) (record { refusal = r .refusal; length = r .length; measure = r .measure }) ⌝ }
-{
-    let given = lineage::text(
-        &mut shaper,
-        &mut state,
-        renderer,
-        node,
-        &list[..count],
-        mark,
-        message,
-        out,
-    );
-    TextAnswer {
-        refusal: given.refusal,
-        length: given.length,
-        measure: given.measure,
-        shaper,
-        state,
-    }
-}
-
 // The public row call, on lent structs, where the core is given entries by value.
 fn lent_row(shaper: Shaper, node: u32, entries: Entries) -> RowAnswer
     requires { ⌜ (entries .«too_many» ≡ false) × (entries .count ≤ entryLimit) ⌝ }
@@ -272,34 +235,6 @@ fn lent_row(shaper: Shaper, node: u32, entries: Entries) -> RowAnswer
 {
     let list = entries.list;
     row_with(shaper, node, list, entries.count)
-}
-
-// The public text call, on lent structs, where the core is given entries by value.
-fn lent_text(
-    shaper: Shaper,
-    state: TextState,
-    renderer: Renderer,
-    node: u32,
-    entries: Entries,
-    mark: u8,
-    message: &[u8],
-    out: &mut [u8],
-) -> TextAnswer
-    requires { ⌜ (entries .«too_many» ≡ false) × (entries .count ≤ entryLimit) ⌝ }
-    ensures { λ r. ⌜ Texts shaper state renderer node entries mark (now (message .entry)) (now (out .entry)) (now (out .exit)) r ⌝ }
-{
-    let list = entries.list;
-    text_with(
-        shaper,
-        state,
-        renderer,
-        node,
-        list,
-        entries.count,
-        mark,
-        message,
-        out,
-    )
 }
 
 // The text call on each record, with the lent message in the place of the record's own: each text behind the one before it if they are
@@ -418,53 +353,6 @@ pub extern "C" fn whole_history_lines(
         }
         if kept {
             from += written.length;
-        }
-        rows = drawn;
-    }
-    rows
-}
-
-// What `whole_history_text` gives, by the public call.
-#[no_mangle]
-pub extern "C" fn whole_history_lent_text(
-    records: &[u8],
-    message: &[u8],
-    renderer: u8,
-    kept: bool,
-    out: &mut [u8],
-) -> usize
-    ensures { λ r. ⌜ wholeText (now (records .entry)) (now (message .entry)) renderer kept (now (out .entry)) ≡ record { rows = r; output = now (out .exit) } ⌝ }
-{
-    let drawing = renderer_of(renderer);
-    let begun = steps::begin();
-    let mut shaper = begun.shaper;
-    let mut state = begun.state;
-    let mut from: usize = 0;
-    let mut rows: usize = 0;
-    while RECORD <= records.len() - RECORD * rows {
-        let at = RECORD * rows;
-        let drawn = rows + 1;
-        let bytes = &records[at..at + RECORD];
-        let node = id_at(bytes, 0);
-        let entries = entries_of(bytes);
-        let mark = bytes[MARK_AT];
-        let given = lent_text(
-            shaper,
-            state,
-            drawing,
-            node,
-            entries,
-            mark,
-            message,
-            &mut out[from..],
-        );
-        if given.refusal != 0 {
-            return rows;
-        }
-        shaper = given.shaper;
-        state = given.state;
-        if kept {
-            from += given.length;
         }
         rows = drawn;
     }
