@@ -19,17 +19,9 @@ const UNWRITTEN: u8 = 0xa5;
 /// The call that is timed: the row call alone, the row and the renderer call, or the text call.
 #[derive(Clone)]
 pub enum Call {
-    Row {
-        form: Form,
-    },
-    Lines {
-        renderer: u8,
-    },
-    Text {
-        form: Form,
-        renderer: u8,
-        message: String,
-    },
+    Row { form: Form },
+    Lines { renderer: u8 },
+    Text { renderer: u8, message: String },
 }
 
 /// A call on a history.
@@ -54,34 +46,24 @@ fn messages() -> [(&'static str, String); 3] {
     ]
 }
 
-/// Every call with its name: the cores first, then the public calls in their lent forms.
+/// Every call with its name.
 pub fn calls() -> Vec<(String, Call)> {
-    let mut calls = vec![("row".to_owned(), Call::Row { form: Form::Core })];
+    let mut calls = Vec::new();
+    for (name, form) in [("row", Form::Core), ("lent row", Form::Lent)] {
+        calls.push((name.to_owned(), Call::Row { form }));
+    }
     for (name, renderer) in RENDERERS {
         calls.push((format!("lines, {name}"), Call::Lines { renderer }));
     }
     for (name, renderer) in RENDERERS {
         for (kind, message) in messages() {
-            let call = text(Form::Core, renderer, &message);
-            calls.push((format!("text, {name}, {kind}"), call));
+            calls.push((
+                format!("text, {name}, {kind}"),
+                Call::Text { renderer, message },
+            ));
         }
     }
-    calls.push(("lent row".to_owned(), Call::Row { form: Form::Lent }));
-    let [(kind, message), ..] = messages();
-    for (name, renderer) in RENDERERS {
-        let call = text(Form::Lent, renderer, &message);
-        calls.push((format!("lent text, {name}, {kind}"), call));
-    }
     calls
-}
-
-/// A text call with this message.
-fn text(form: Form, renderer: u8, message: &str) -> Call {
-    Call::Text {
-        form,
-        renderer,
-        message: message.to_owned(),
-    }
 }
 
 /// The call with every number of open lines that has this number, if there are so many.
@@ -128,9 +110,9 @@ impl Case {
             Call::Lines { renderer } => {
                 rust::lines(&self.rows, *renderer, false, &mut self.text);
             }
-            Call::Text {
-                renderer, message, ..
-            } => rust::text(&self.rows, message, *renderer, false, &mut self.text),
+            Call::Text { renderer, message } => {
+                rust::text(&self.rows, message, *renderer, false, &mut self.text);
+            }
         }
     }
 
@@ -160,9 +142,9 @@ impl Case {
         match &self.call {
             Call::Row { .. } => return (rust::shape_bytes(&self.rows), Vec::new()),
             Call::Lines { renderer } => rust::lines(&self.rows, *renderer, true, &mut all),
-            Call::Text {
-                renderer, message, ..
-            } => rust::text(&self.rows, message, *renderer, true, &mut all),
+            Call::Text { renderer, message } => {
+                rust::text(&self.rows, message, *renderer, true, &mut all);
+            }
         }
         self.rust();
         (all.into_bytes(), self.text.clone().into_bytes())
@@ -174,10 +156,8 @@ fn drawn(call: &Call, records: &[u8], kept: bool, out: &mut [u8]) -> usize {
     match call {
         Call::Row { form } => ours::shapes(*form, records, kept, out),
         Call::Lines { renderer } => ours::lines(records, *renderer, kept, out),
-        Call::Text {
-            form,
-            renderer,
-            message,
-        } => ours::text(*form, records, message.as_bytes(), *renderer, kept, out),
+        Call::Text { renderer, message } => {
+            ours::text(records, message.as_bytes(), *renderer, kept, out)
+        }
     }
 }

@@ -31,17 +31,6 @@ extern "C" {
         out_length: usize,
     ) -> usize;
 
-    fn whole_history_lent_text(
-        records: *const u8,
-        records_length: usize,
-        message: *const u8,
-        message_length: usize,
-        renderer: u8,
-        kept: bool,
-        out: *mut u8,
-        out_length: usize,
-    ) -> usize;
-
     fn whole_history_lent_shapes(
         records: *const u8,
         records_length: usize,
@@ -51,7 +40,7 @@ extern "C" {
     ) -> usize;
 }
 
-/// Which of our calls is made: the core, by value, or the public call, on lent states and a lent list of entries.
+/// Which of our row calls is made: the core, by value, or the public call, on a lent shaper and a lent list of entries.
 #[derive(Clone, Copy, PartialEq, Eq)]
 pub enum Form {
     Core,
@@ -59,22 +48,11 @@ pub enum Form {
 }
 
 /// The text call on every record, and how many of them were drawn.
-pub fn text(
-    form: Form,
-    records: &[u8],
-    message: &[u8],
-    renderer: u8,
-    kept: bool,
-    out: &mut [u8],
-) -> usize {
+pub fn text(records: &[u8], message: &[u8], renderer: u8, kept: bool, out: &mut [u8]) -> usize {
     let (records, out) = (black_box(records), black_box(out));
-    let call = match form {
-        Form::Core => whole_history_text,
-        Form::Lent => whole_history_lent_text,
-    };
     // SAFETY: a slice is passed as its pointer and its length, and the callee keeps neither.
     unsafe {
-        call(
+        whole_history_text(
             records.as_ptr(),
             records.len(),
             message.as_ptr(),

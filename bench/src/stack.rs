@@ -74,14 +74,14 @@ fn depth(run: &mut dyn FnMut()) -> usize {
 
 /// How deep each call goes on each side: the greatest depth of all cases.
 pub fn table(rows: usize) {
-    println!("call        ours bytes   Rust bytes");
-    for call in ["row", "lines", "text", "lent row", "lent text"] {
+    println!("call       ours bytes   Rust bytes");
+    for call in ["row", "lent row", "lines", "text"] {
         let (mut ours, mut rust) = (0, 0);
         for mut case in cases::all(rows).filter(|case| case.name.starts_with(call)) {
             case.check();
             ours = ours.max(depth(&mut || case.ours()));
             rust = rust.max(depth(&mut || case.rust()));
         }
-        println!("{call:9} {ours:12} {rust:12}");
+        println!("{call:8} {ours:12} {rust:12}");
     }
 }

@@ -4,3 +4,5 @@ pub mod ShapeLaws
 pub mod TextTurn
 pub mod ShapeTurn
 pub mod LinesTurn
+pub mod FrontLaws
+pub mod HeldLaws

@@ -32,6 +32,10 @@ module _ (s : List ℕ) {es : Entries} (e : es ≡ entriesWith (entriesOf s)) wh
   pub listed-read : listed es ≡ entriesOf s
   listed-read = ap listed e ∙ listed-with (entriesOf s) (entries-few s)
 
+  -- it can be lent whole
+  pub entries-held : (es .«too_many» ≡ false) × (es .count ≤ entryLimit)
+  entries-held = (ap (λ (x : Entries). x .«too_many») e, rw (ap (λ (x : Entries). x .count) e) (entries-few s))
+
 -- one entry more in the array
 pub list-next : (s : List ℕ) (i : ℕ) {l : List Entry} {a : Ancestor} {k : ℕ} → l ≡ entriesWith (first s i) .list
     → a ≡ entryOf (record { kind = getD s (entryPlace i) 0; id = k }) → k ≡ idAt s (entryPlace i + 1) → i < entryLimit

@@ -1,9 +1,13 @@
 // Whole histories: the row call, the renderer call and the text call on every record of a history, for bench, which times them beside the
 // Rust.
 ghost use mathlib.Core.Path.{_≡_};
+ghost use mathlib.Core.Bool.{false};
 ghost use Prim.Native.Nat.{_+_, _≤_, _%_};
-ghost use lib.ListN.{length};
+ghost use lib.ListN.{length, take};
 ghost use Rattle.slices.specs.Joins.{Writes};
+ghost use Rattle.render.specs.Entries.{entryLimit};
+ghost use Rattle.row_shape.specs.Promises.{Rows};
+ghost use Rattle.lineage.specs.Promises.{LentRows};
 ghost use Rattle.record.specs.Record.{recordLength, idAt, entryOf};
 ghost use Rattle.record.specs.Promises.{entriesWith};
 ghost use Rattle.whole_history.specs.Shapes.{flag as flagOf, nodeNumber, padNumber, cellBytes, headBytes, shapeBytes};
@@ -21,7 +25,9 @@ use render::Entry;
 use render::NodeLine;
 use render::PadLine;
 use render::RowShape;
+use row_shape::RowAnswer;
 use row_shape::next_row_shape;
+use shaper::Shaper;
 use slices::lesser;
 use slices::write_bytes;
 use text::write_next_text;
@@ -209,6 +215,28 @@ fn write_shape(out: &mut [u8], shape: RowShape) -> usize
     size
 }
 
+// The row call on a lent shaper and a lent list: a shaper of its own and the first entries of an array.
+fn row_with(mut shaper: Shaper, node: u32, list: [Entry; ENTRY_LIMIT], count: usize) -> RowAnswer
+    requires { ⌜ count ≤ entryLimit ⌝ }
+    ensures { λ r. ⌜ LentRows shaper node (take count list) (r .shaper) (record { refusal = r .refusal; shape = r .shape }) ⌝ }
+{
+    let given = lineage::row(&mut shaper, node, &list[..count]);
+    RowAnswer {
+        refusal: given.refusal,
+        shape: given.shape,
+        shaper,
+    }
+}
+
+// The public row call, on lent structs, where the core is given entries by value.
+fn lent_row(shaper: Shaper, node: u32, entries: Entries) -> RowAnswer
+    requires { ⌜ (entries .«too_many» ≡ false) × (entries .count ≤ entryLimit) ⌝ }
+    ensures { λ r. ⌜ Rows shaper node entries r ⌝ }
+{
+    let list = entries.list;
+    row_with(shaper, node, list, entries.count)
+}
+
 // The text call on each record, with the lent message in the place of the record's own: each text behind the one before it if they are
 // kept, else each at the output's beginning. Ends at the first row that is refused, and gives the count of those that were not.
 #[no_mangle]
@@ -325,6 +353,44 @@ pub extern "C" fn whole_history_lines(
         }
         if kept {
             from += written.length;
+        }
+        rows = drawn;
+    }
+    rows
+}
+
+// What `whole_history_shapes` gives, by the public call.
+#[no_mangle]
+pub extern "C" fn whole_history_lent_shapes(records: &[u8], kept: bool, out: &mut [u8]) -> usize
+    ensures { λ r. ⌜ wholeShapes (now (records .entry)) kept (now (out .entry)) ≡ record { rows = r; output = now (out .exit) } ⌝ }
+{
+    let begun = steps::begin();
+    let mut shaper = begun.shaper;
+    let mut from: usize = 0;
+    let mut rows: usize = 0;
+    while RECORD <= records.len() - RECORD * rows {
+        let at = RECORD * rows;
+        let drawn = rows + 1;
+        let bytes = &records[at..at + RECORD];
+        let given = lent_row(shaper, id_at(bytes, 0), entries_of(bytes));
+        if given.refusal != 0 {
+            return rows;
+        }
+        shaper = given.shaper;
+        let shape = given.shape;
+        let column = shape.node_column;
+        if kept {
+            let written = write_shape(&mut out[from..], shape);
+            if written == 0 {
+                return rows;
+            }
+            from += written;
+        } else if column < COLUMN_LIMIT {
+            if out.len() - from < CELL {
+                return rows;
+            }
+            let cell = cell_bytes(shape.cells[column]);
+            write_bytes(&mut out[from..], &cell);
         }
         rows = drawn;
     }
