@@ -22,7 +22,7 @@ use Rattle.slices.specs.Joins.{joins}
 
 -- ---- the glyphs of a table
 
--- nine bytes for a glyph: a count, read as at most 8, and eight places
+-- nine bytes for a glyph: a count, read as at most 8, and eight places ("const byte tables with lengths", 01, "Each place and its form")
 abbrev pub placed : List ℕ → ℕ → List ℕ
 placed table n = take (min (getD table (n * 9) 0) 8) (map (λ (j : ℕ). getD table (n * 9 + j) 0) (1 ∷ 2 ∷ 3 ∷ 4 ∷ 5 ∷ 6 ∷ 7 ∷ 8 ∷ []))
 
@@ -37,20 +37,23 @@ abbrev pub paired : {A B C : Type 0} → (A → B → C) → List A → List B �
 paired f [] bs = []
 paired f (a ∷ rest) bs = map (f a) bs ++ paired f rest bs
 
--- an ASCII cell: its upright or another character of a line, and its connecting character
+-- an ASCII cell's first character: an upright, or another that a line can have there (ascii.rs)
 abbrev pub uprights : List ℕ
 uprights = blank ∷ bar ∷ dot ∷ colon ∷ plus ∷ minus ∷ quote ∷ tilde ∷ []
 
+-- its second, the connecting one (ascii.rs)
 abbrev pub connections : List ℕ
 connections = blank ∷ minus ∷ backslash ∷ slash ∷ []
 
--- a large ASCII cell: its left, center and right character
+-- a large ASCII cell's left character (ascii_large.rs)
 abbrev pub lefts : List ℕ
 lefts = blank ∷ slash ∷ dot ∷ underscore ∷ backslash ∷ []
 
+-- its center
 abbrev pub centers : List ℕ
 centers = blank ∷ bar ∷ dot ∷ colon ∷ underscore ∷ tilde ∷ []
 
+-- its right character
 abbrev pub rights : List ℕ
 rights = blank ∷ backslash ∷ dot ∷ underscore ∷ slash ∷ []
 
@@ -95,6 +98,7 @@ placeIn (x ∷ xs) c = cond (eqb c x) 0 (suc (placeIn xs c))
 abbrev pub pairNumber : ℕ → ℕ → ℕ
 pairNumber a b = 4 * placeIn uprights a + placeIn connections b
 
+-- the number of what a cell of the ASCII renderer was given, past the last glyph where it draws none
 abbrev pub asciiNumber : DashStyle → Choice → ℕ
 asciiNumber d choice.Space = pairNumber blank blank
 asciiNumber d choice.Solid = pairNumber bar blank
@@ -105,10 +109,11 @@ asciiNumber d (choice.Two a b) = pairNumber a b
 asciiNumber d (choice.Three a b c) = 33
 asciiNumber d (choice.Glyph n) = 33
 
--- the number of two characters in the large one's, in the first cell, and of three
+-- the number of the first cell's two characters in the large one's
 abbrev pub firstNumber : ℕ → ℕ → ℕ
 firstNumber b c = 150 + (5 * placeIn centers b + placeIn rights c)
 
+-- and of three
 abbrev pub threeNumber : ℕ → ℕ → ℕ → ℕ
 threeNumber a b c = 30 * placeIn lefts a + (5 * placeIn centers b + placeIn rights c)
 
@@ -116,6 +121,7 @@ threeNumber a b c = 30 * placeIn lefts a + (5 * placeIn centers b + placeIn righ
 abbrev pub apartNumber : ℕ → ℕ → ℕ
 apartNumber i c = cond (ltb 0 i) (threeNumber blank c blank) (firstNumber c blank)
 
+-- the number of what cell i of the large one was given
 abbrev pub largeNumber : DashStyle → ℕ → Choice → ℕ
 largeNumber d i choice.Space = apartNumber i blank
 largeNumber d i choice.Solid = apartNumber i bar
