@@ -22,7 +22,7 @@ use crate::stream::Text;
 use crate::stream::Width;
 
 /// The greatest output length.
-const OUTPUT: u32 = 300_000;
+pub const OUTPUT: u32 = 300_000;
 
 /// What a command answers, beside the states that it leaves.
 pub enum Answer {

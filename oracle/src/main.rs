@@ -47,6 +47,7 @@ use cells::PARTS;
 use compare::Source;
 use compare::Task;
 use demand3::Fault;
+use demand3::Whose;
 use record_compare::Program;
 use replay::Replay;
 use stream::Letters;
@@ -57,20 +58,21 @@ const USAGE: &str = "usage: oracle answer [--built LETTERS]
        oracle compare N SEED REPLAY [--built LETTERS] [--threads N] [--seconds S] [--timeout S] [--every-refusal] [--every-kind]
        oracle cells [--part K]
        oracle cells-compare REPLAY [--part K] [--built LETTERS] [--threads N] [--timeout S]
-       oracle demand3 N SEED [--mutant K]
+       oracle demand3 N SEED [--mutant NAME | --ours REPLAY] [--timeout S]
        oracle vectors [--built LETTERS]
        oracle page
        oracle listing
        oracle records-compare N SEED PAGE LISTING [--threads N] [--timeout S] [--every-refusal] [--every-kind]";
 
 /// The options, each with a value.
-const OPTIONS: [&str; 6] = [
+const OPTIONS: [&str; 7] = [
     "--built",
     "--threads",
     "--seconds",
     "--timeout",
     "--part",
     "--mutant",
+    "--ours",
 ];
 
 /// The options without a value: a comparison has to see every refusal that it can, and every kind of input.
@@ -174,8 +176,13 @@ fn record_files_task(arguments: &Arguments) -> Result<record_compare::Task, Stri
 
 /// The program under test, which is the argument at `place`.
 fn under_test(arguments: &Arguments, place: usize) -> Result<Replay, String> {
+    program(arguments, &arguments.plain(place)?)
+}
+
+/// The program at this path.
+fn program(arguments: &Arguments, path: &str) -> Result<Replay, String> {
     let limit = arguments.option_number("--timeout")?.unwrap_or(TIMEOUT);
-    let program = PathBuf::from(arguments.plain(place)?);
+    let program = PathBuf::from(path);
     if !program.is_file() {
         return Err(format!(
             "{} is not there; build it first",
@@ -202,15 +209,19 @@ fn task(arguments: &Arguments, lists: u32, source: Source, place: usize) -> Resu
     })
 }
 
-/// Tries demand 3, of the Rust or of a wrong machine.
+/// Tries demand 3, of the Rust, of a wrong machine or of our program.
 fn demand_3(arguments: &Arguments) -> Result<bool, String> {
-    let number: Option<u8> = arguments.option_number("--mutant")?;
-    let fault = number.map(|number| Fault::new(number).ok_or("mutants are 1 to 5"));
-    Ok(demand3::run(
-        arguments.number(1)?,
-        arguments.number(2)?,
-        fault.transpose()?,
-    ))
+    let whose = match (arguments.option("--mutant"), arguments.option("--ours")) {
+        (Some(_), Some(_)) => return Err("a mutant is not ours".to_owned()),
+        (None, Some(path)) => Whose::Ours(program(arguments, path)?),
+        (name, None) => Whose::Rust(name.map(Fault::new).transpose()?),
+    };
+    let task = demand3::Task {
+        lists: arguments.number(1)?,
+        seed: arguments.number(2)?,
+        whose,
+    };
+    task.run()
 }
 
 /// All of standard input.

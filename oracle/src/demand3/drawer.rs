@@ -1,101 +1,161 @@
-//! What demand 3 is claimed of: the Rust behind its calls, or a wrong machine in its place.
+//! The Rust behind its calls, or a wrong machine in its place.
 
 use crate::calls;
+use crate::calls::Shape;
 use crate::calls::Shaper;
-use crate::codes;
 use crate::column::Column;
-use crate::column::ColumnsExt;
 use crate::machine::Machine;
-use crate::pipeline::types::NodeLine;
-use crate::pipeline::types::PadLine;
-use crate::refusals::Refusal;
+use crate::pipeline::types::DashStyle;
 use crate::stream::Command;
 use crate::stream::Letters;
+use crate::stream::Options;
 use crate::stream::Row;
 
+use super::faults::Fault;
+use super::faults::Outcome;
+use super::faults::TrueRow;
+use super::lines::Stroke;
+use super::lines::RENDERERS;
+use super::seen;
+use super::seen::Answers;
+use super::seen::Begun;
+use super::seen::Drawn;
+use super::seen::Seen;
+use super::seen::View;
+use super::seen::Written;
 use super::waiting;
 
-/// What a wrong machine does, by its number.
-#[derive(Clone, Copy, Debug, PartialEq, Eq)]
-pub enum Fault {
-    /// 1: rows leave the columns untouched.
-    Untouched,
-    /// 2: the first row is drawn truly, later lines are blank.
-    Blank,
-    /// 3: after a row, two ids exchange their columns.
-    Exchange,
-    /// 4: a single entry's id to the right of the node stays where it is.
-    NoSwap,
-    /// 5: reserved ids are drawn in the foot line.
-    ReservedDrawn,
-}
-
-impl Fault {
-    /// The fault with this number.
-    pub fn new(number: u8) -> Option<Fault> {
-        match number {
-            1 => Some(Fault::Untouched),
-            2 => Some(Fault::Blank),
-            3 => Some(Fault::Exchange),
-            4 => Some(Fault::NoSwap),
-            5 => Some(Fault::ReservedDrawn),
-            _ => None,
-        }
-    }
-}
+/// The id that a stale shaper holds.
+const STALE: u32 = 77;
 
 /// The Rust's machine, with a fault or none.
 pub struct Drawer {
     machine: Machine,
     fault: Option<Fault>,
+    dashes: DashStyle,
+    /// Which mark is next.
+    turn: u64,
+    /// How many rows were accepted.
     rows: u64,
+    /// The foot lines of the last accepted row.
+    above: [Vec<Stroke>; RENDERERS],
 }
 
 impl Drawer {
-    /// A machine that no call has been made on.
-    pub fn new(fault: Option<Fault>) -> Self {
+    /// A machine that no call has been made on; the first row is drawn with the mark of this turn.
+    pub fn new(fault: Option<Fault>, turn: u64) -> Self {
         Self {
             machine: Machine::new(&Letters::all()),
             fault,
+            dashes: DashStyle::Persistent,
+            turn,
             rows: 0,
+            above: Default::default(),
         }
     }
 
     /// Makes a call and gives its refusal number, 0 for none.
-    pub fn call(&mut self, call: &Command) -> u8 {
-        let before = self.machine.shaper.clone();
-        let number = self.machine.run(call).refusal().unwrap_or(0);
-        if let (Command::Row(row), 0) = (call, number) {
-            self.rows += 1;
-            self.spoil(&before, row);
+    fn run(&mut self, call: &Command) -> u8 {
+        self.machine.run(call).refusal().unwrap_or(0)
+    }
+
+    /// What is seen of a call that draws nothing.
+    fn seen(&self, number: u8) -> Seen {
+        Seen {
+            number,
+            columns: self.machine.shaper.columns().clone(),
+            drawn: None,
+            differs: None,
         }
-        number
     }
 
-    /// The columns as they stand.
-    pub fn columns(&self) -> &[Column<u32>] {
-        self.machine.shaper.columns()
+    /// An accepted reservation.
+    fn reserved(&mut self, before: &Shaper, id: u32) -> Seen {
+        if let Some(fault) = self.fault {
+            let columns = self.machine.shaper.columns().clone();
+            self.set_columns(fault.reserved(before.columns(), id, columns));
+        }
+        self.seen(0)
     }
 
-    /// The node's column in the last accepted row.
-    pub fn node_column(&self) -> usize {
-        self.machine.shape.row.node_column
+    /// An accepted row or text call; a text call is held against the row call with its node and entries.
+    fn drawn(&mut self, before: &Shaper, call: &Command) -> Seen {
+        if let Command::Text(_) = call {
+            self.spoil_text(before);
+        }
+        let row = waiting::row_of(call).expect("a row or text call");
+        match calls::row(before, row) {
+            Ok((counted, shape)) => {
+                let after = View::new(&self.machine.shaper);
+                let differs = seen::difference(&after, &View::new(&counted));
+                let outcome = self.outcome(before, row, &shape);
+                self.end_row(outcome, differs)
+            }
+            Err(refusal) => Seen {
+                differs: Some(format!("the row call gives {refusal:?}")),
+                ..self.seen(0)
+            },
+        }
     }
 
-    /// The lines that a renderer call writes of the last accepted row.
-    pub fn lines(&self, renderer: usize, mark: u8) -> Result<String, Refusal> {
-        calls::renderer(&self.machine.shape, renderer as u8, mark)
-    }
-
-    /// Does what the fault says, after an accepted row.
-    fn spoil(&mut self, before: &Shaper, row: &Row) {
+    /// Does to the shaper after an accepted text call what the fault says.
+    fn spoil_text(&mut self, before: &Shaper) {
+        let shaper = &self.machine.shaper;
         match self.fault {
-            Some(Fault::Untouched) => self.set_columns(before.columns().clone()),
-            Some(Fault::Blank) if self.rows > 1 => self.blank_lines(),
-            Some(Fault::Exchange) => self.exchange(),
-            Some(Fault::NoSwap) => self.swap_back(before, row),
-            Some(Fault::ReservedDrawn) => self.draw_reserved(),
-            Some(Fault::Blank) | None => {}
+            Some(Fault::TextIgnored) => self.set_columns(before.columns().clone()),
+            Some(Fault::PreviousLost) => {
+                self.machine.shaper =
+                    Shaper::by_hand(shaper.columns().clone(), *shaper.options(), None);
+            }
+            _ => {}
+        }
+    }
+
+    /// What an accepted row with this shape leaves and shows, after the fault.
+    fn outcome(&self, before: &Shaper, row: &Row, shape: &Shape) -> Outcome {
+        let mut outcome = Outcome {
+            columns: self.machine.shaper.columns().clone(),
+            drawn: Drawn {
+                node: shape.row.node_column,
+                lines: self.lines(shape),
+            },
+        };
+        let row = TrueRow {
+            before: before.columns(),
+            row,
+            shape,
+            later: self.rows > 0,
+            above: &self.above,
+        };
+        if let Some(fault) = self.fault {
+            fault.spoil(&row, &mut outcome);
+        }
+        outcome
+    }
+
+    /// The lines that each renderer writes of a shape.
+    fn lines(&self, shape: &Shape) -> [Written; RENDERERS] {
+        std::array::from_fn(|renderer| {
+            let given = calls::renderer(shape, renderer as u8, seen::mark(self.turn));
+            let given = given.map_err(|refusal| format!("{refusal:?}"));
+            seen::written(given, renderer, self.dashes)
+        })
+    }
+
+    /// Stores what an accepted row leaves.
+    fn end_row(&mut self, outcome: Outcome, differs: Option<String>) -> Seen {
+        self.set_columns(outcome.columns);
+        self.rows += 1;
+        self.turn += 1;
+        for (above, lines) in self.above.iter_mut().zip(&outcome.drawn.lines) {
+            if let Ok(lines) = lines {
+                above.clone_from(&lines.foot);
+            }
+        }
+        Seen {
+            drawn: Some(outcome.drawn),
+            differs,
+            ..self.seen(0)
         }
     }
 
@@ -105,54 +165,27 @@ impl Drawer {
         self.machine.shaper =
             Shaper::by_hand(columns, *shaper.options(), shaper.previous_node_column());
     }
+}
 
-    /// Blanks every line of the shape.
-    fn blank_lines(&mut self) {
-        let row = &mut self.machine.shape.row;
-        row.node_line.fill(NodeLine::Blank);
-        row.ancestry_line.fill(PadLine::Blank);
-        row.link_line = None;
-        row.term_line = None;
-    }
-
-    /// Exchanges the first and the last column that hold an id.
-    fn exchange(&mut self) {
-        let mut columns = self.columns().to_vec();
-        let holding = |column: &Column<u32>| codes::held(column).is_some();
-        if let (Some(first), Some(last)) = (
-            columns.iter().position(holding),
-            columns.iter().rposition(holding),
-        ) {
-            columns.swap(first, last);
-            self.set_columns(columns);
+impl Answers for Drawer {
+    fn new_shaper(&mut self, options: &Options) -> Begun {
+        let number = self.run(&Command::New(options.clone()));
+        self.dashes = seen::dashes(options, number);
+        if self.fault == Some(Fault::Stale) {
+            self.set_columns(vec![Column::Parent(STALE)]);
+        }
+        Begun {
+            number,
+            columns: self.machine.shaper.columns().clone(),
         }
     }
 
-    /// Undoes a swap, in the columns and in the foot line.
-    fn swap_back(&mut self, before: &Shaper, row: &Row) {
-        let [entry] = row.entries.as_slice() else {
-            return;
-        };
-        let held = waiting::named(entry).and_then(|id| before.columns().find(&id));
-        let node = self.node_column();
-        let Some(right) = held.filter(|held| *held > node) else {
-            return;
-        };
-        let mut columns = self.columns().to_vec();
-        columns.resize(columns.len().max(right + 1), Column::Empty);
-        columns.swap(node, right);
-        columns.reset();
-        self.set_columns(columns);
-        self.machine.shape.row.ancestry_line.swap(node, right);
-    }
-
-    /// Draws a stroke below every reserved column.
-    fn draw_reserved(&mut self) {
-        let columns = self.columns().to_vec();
-        for (place, column) in columns.iter().enumerate() {
-            if matches!(column, Column::Reserved(_)) {
-                self.machine.shape.row.ancestry_line[place] = PadLine::Parent;
-            }
+    fn call(&mut self, call: &Command) -> Seen {
+        let before = self.machine.shaper.clone();
+        match (self.run(call), call) {
+            (0, Command::Reserve(id)) => self.reserved(&before, *id),
+            (0, _) => self.drawn(&before, call),
+            (number, _) => self.seen(number),
         }
     }
 }

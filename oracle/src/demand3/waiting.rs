@@ -3,6 +3,7 @@
 use std::collections::BTreeMap;
 
 use crate::codes;
+use crate::column::Column;
 use crate::render::Ancestor;
 use crate::stream::Command;
 use crate::stream::Entry;
@@ -10,7 +11,7 @@ use crate::stream::Row;
 
 /// How an id waits.
 #[derive(Clone, Copy, Debug, PartialEq, Eq)]
-enum Wait {
+pub enum Wait {
     Reserved,
     Named,
 }
@@ -22,13 +23,12 @@ pub struct Waiting {
 }
 
 impl Waiting {
-    /// Takes a reserving or row call into account; a refused one changes nothing.
+    /// Takes a reserving, row or text call into account; a refused one changes nothing.
     pub fn take(&mut self, call: &Command, refused: bool) {
         match call {
             _ if refused => {}
             Command::Reserve(id) => self.reserve(*id),
-            Command::Row(row) => self.row(row),
-            _ => unreachable!("a reserving or row call"),
+            _ => self.row(row_of(call).expect("a reserving, row or text call")),
         }
     }
 
@@ -44,20 +44,23 @@ impl Waiting {
         self.ids.extend(ids.map(|id| (id, Wait::Named)));
     }
 
-    /// Whether the id waits.
-    pub fn has(&self, id: u32) -> bool {
-        self.ids.contains_key(&id)
+    /// How the id waits, if it does.
+    pub fn of(&self, id: u32) -> Option<Wait> {
+        self.ids.get(&id).copied()
     }
 
     /// The ids that wait, in rising order.
     pub fn ids(&self) -> impl Iterator<Item = u32> + '_ {
         self.ids.keys().copied()
     }
+}
 
-    /// The ids that wait as named, in rising order.
-    pub fn named(&self) -> impl Iterator<Item = u32> + '_ {
-        let named = self.ids.iter().filter(|(_, wait)| **wait == Wait::Named);
-        named.map(|(id, _)| *id)
+/// The row as which a call counts: its own, and a text call's row with its node and entries.
+pub fn row_of(call: &Command) -> Option<&Row> {
+    match call {
+        Command::Row(row) => Some(row),
+        Command::Text(text) => Some(&text.row),
+        _ => None,
     }
 }
 
@@ -66,5 +69,14 @@ pub fn named(entry: &Entry) -> Option<u32> {
     match codes::ancestor(entry) {
         Ancestor::Anonymous => None,
         Ancestor::Ancestor(id) | Ancestor::Parent(id) => Some(id),
+    }
+}
+
+/// How the id that a column holds waits, as the column says.
+pub fn said_by(column: &Column<u32>) -> Option<Wait> {
+    match column {
+        Column::Empty | Column::Blocked => None,
+        Column::Reserved(_) => Some(Wait::Reserved),
+        Column::Ancestor(_) | Column::Parent(_) => Some(Wait::Named),
     }
 }

@@ -1,4 +1,4 @@
-//! Histories for demand 3: one new shaper, then reserving and row calls of any content.
+//! Histories for demand 3: one new shaper, then reserving, row and text calls of any content.
 
 use std::ops::Range;
 
@@ -12,7 +12,7 @@ use crate::stream::Letters;
 use crate::stream::Row;
 
 /// A history's weights of the letters N R W V P T D S Q H X.
-const THEME: Theme = [0, 1, 3, 0, 0, 0, 0, 0, 0, 0, 0];
+const THEME: Theme = [0, 2, 4, 0, 0, 3, 0, 0, 0, 0, 0];
 
 /// The history with this number: a new shaper, refused or not, then calls, refused ones among them.
 pub fn history(seed: u64, number: u32) -> Vec<Command> {

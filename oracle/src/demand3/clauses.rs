@@ -1,0 +1,127 @@
+//! The clauses of demand 3, and which of them fail after a call.
+
+use std::collections::BTreeMap;
+use std::collections::BTreeSet;
+
+/// The clauses, in the order in which they are printed.
+#[derive(Clone, Copy, Debug, PartialEq, Eq, PartialOrd, Ord)]
+pub enum Clause {
+    Fresh,
+    Held,
+    Waits,
+    One,
+    Unblocked,
+    Full,
+    Changes,
+    To,
+    Own,
+    Empty,
+    First,
+    Written,
+    Strokes,
+    Kinds,
+    Meets,
+    Counts,
+}
+
+impl Clause {
+    /// The clause's name, that of its field in the statement; `written` and `counts` are no fields.
+    pub fn name(self) -> &'static str {
+        match self {
+            Clause::Fresh => "fresh",
+            Clause::Held => "held",
+            Clause::Waits => "waits",
+            Clause::One => "one",
+            Clause::Unblocked => "unblocked",
+            Clause::Full => "full",
+            Clause::Changes => "changes",
+            Clause::To => "to",
+            Clause::Own => "own",
+            Clause::Empty => "empty",
+            Clause::First => "first",
+            Clause::Written => "written",
+            Clause::Strokes => "strokes",
+            Clause::Kinds => "kinds",
+            Clause::Meets => "meets",
+            Clause::Counts => "counts",
+        }
+    }
+
+    /// The clause in words.
+    fn words(self) -> &'static str {
+        match self {
+            Clause::Fresh => "a new shaper has no columns",
+            Clause::Held => "every id that waits is in a column",
+            Clause::Waits => {
+                "every id in a column waits, and as the column says: a Reserved one as \
+                reserved, an Ancestor or Parent one as named"
+            }
+            Clause::One => "no id is in two columns",
+            Clause::Unblocked => "no column is blocked",
+            Clause::Full => "the last column, if any, isn't empty",
+            Clause::Changes => {
+                "an id waiting before and after a call, other than an accepted row's own \
+                node, changes column exactly when the call is an accepted row with that id as \
+                its one parent entry and the id waited to the right of the node"
+            }
+            Clause::To => "an id that is to change column moves to the node's column",
+            Clause::Own => "the node's column held its id, if the id waited",
+            Clause::Empty => "the node's column was Empty or new, if the id did not wait",
+            Clause::First => {
+                "no column left of the node's was Empty or new, if the id did not wait, but \
+                the node's column of the accepted row before"
+            }
+            Clause::Written => {
+                "a renderer call accepts an accepted row's shape and writes one head line and \
+                one foot line, made of its cells"
+            }
+            Clause::Strokes => {
+                "the foot line has a stroke exactly in the columns of the ids that wait as \
+                named right after the row"
+            }
+            Clause::Kinds => "every cell of a foot line is solid, dashed or blank",
+            Clause::Meets => {
+                "the foot line equals the next accepted row's head line, except that a dashed \
+                stroke over the node becomes solid"
+            }
+            Clause::Counts => "a text call counts as the row call with its node and entries",
+        }
+    }
+}
+
+/// The clauses that fail after a call, each with what stands there first.
+#[derive(Debug, Default)]
+pub struct Failing(BTreeMap<Clause, String>);
+
+impl Failing {
+    /// Tries a clause, with words for what was found where it does not hold.
+    pub fn claim(&mut self, clause: Clause, holds: bool, found: impl FnOnce() -> String) {
+        if !holds {
+            self.0.entry(clause).or_insert_with(found);
+        }
+    }
+
+    /// Whether every clause holds.
+    pub fn is_empty(&self) -> bool {
+        self.0.is_empty()
+    }
+
+    /// The clauses that fail.
+    pub fn clauses(&self) -> BTreeSet<Clause> {
+        self.0.keys().copied().collect()
+    }
+
+    /// Prints each clause that fails: its name, its words, and what was found.
+    pub fn print(&self) {
+        for (clause, found) in &self.0 {
+            println!("  {}: {}", clause.name(), clause.words());
+            println!("    found: {found}");
+        }
+    }
+}
+
+/// The names of clauses, joined by blanks.
+pub fn names(clauses: &BTreeSet<Clause>) -> String {
+    let names: Vec<_> = clauses.iter().map(|clause| clause.name()).collect();
+    names.join(" ")
+}

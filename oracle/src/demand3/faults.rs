@@ -1,0 +1,333 @@
+//! The wrong machines: each is the Rust's with one thing wrong, which acts on the columns, the node's column that is reported, or the strokes of the lines.
+
+use crate::calls::Shape;
+use crate::column::Column;
+use crate::column::ColumnsExt;
+use crate::refusals;
+use crate::stream::Row;
+
+use super::lines;
+use super::lines::Lines;
+use super::lines::Stroke;
+use super::lines::RENDERERS;
+use super::seen::Drawn;
+use super::waiting;
+
+/// A node that is reported far right is reported in the column with the number of columns plus this.
+const FAR: usize = 7;
+
+/// What a wrong machine does. What it does with a row it does with the row of a text call, too.
+#[derive(Clone, Copy, Debug, PartialEq, Eq)]
+pub enum Fault {
+    /// A new shaper holds an id.
+    Stale,
+    /// An accepted reservation of an id that no column holds stores nothing.
+    Forgetting,
+    /// After a row the node's id is kept as Reserved in the node's column, where that is Empty or past the end and no column holds the id.
+    Keeping,
+    /// An accepted reservation of an id that no column holds stores it in a further last column, too, if there is one left.
+    Doubling,
+    /// The columns of a row's Anonymous entries stay Blocked after it; Empty columns at the end go.
+    Blocking,
+    /// Blocked columns become Empty after a row; Empty columns at the end stay.
+    Untrimmed,
+    /// An accepted reservation of an id that no column holds puts the columns into reverse order; Empty columns at the end go.
+    Turning,
+    /// The id of a single entry that is swapped goes to a new last column, if there is one left, and the node's column becomes Empty.
+    Pulling,
+    /// A node that a column holds is reported far right; its row does not swap, and its head line is the line above.
+    FarFromOwn,
+    /// A node that no column holds is reported in the last column, if there is one and no column is Empty.
+    OnAnother,
+    /// A node that no column holds is reported far right; its row does not swap.
+    FarRight,
+    /// The first row's foot line is drawn truly, later ones are blank.
+    BlankFeet,
+    /// Reserved ids are drawn solid in the foot line.
+    ReservedDrawn,
+    /// Every blank cell of a foot line is another glyph, and a head line repeats the line above.
+    Garbling,
+    /// Every head line is blank.
+    BlankHeads,
+    /// Every head line is the line above, a dashed stroke over the node too.
+    DashedOverNode,
+    /// The renderer calls write no lines.
+    Unwritten,
+    /// An accepted text call leaves no previous node column.
+    PreviousLost,
+    /// An accepted text call leaves the columns as they were.
+    TextIgnored,
+    /// A row leaves the columns untouched.
+    Untouched,
+    /// The first row is drawn truly, later head and foot lines are blank.
+    BlankLater,
+    /// The id of a single entry to the right of the node stays where it is.
+    Unswapping,
+}
+
+/// The wrong machines by name.
+const NAMES: [(&str, Fault); 22] = [
+    ("stale", Fault::Stale),
+    ("forgetting", Fault::Forgetting),
+    ("keeping", Fault::Keeping),
+    ("doubling", Fault::Doubling),
+    ("blocking", Fault::Blocking),
+    ("untrimmed", Fault::Untrimmed),
+    ("turning", Fault::Turning),
+    ("pulling", Fault::Pulling),
+    ("far_from_own", Fault::FarFromOwn),
+    ("on_another", Fault::OnAnother),
+    ("far_right", Fault::FarRight),
+    ("blank_feet", Fault::BlankFeet),
+    ("reserved_drawn", Fault::ReservedDrawn),
+    ("garbling", Fault::Garbling),
+    ("blank_heads", Fault::BlankHeads),
+    ("dashed_over_node", Fault::DashedOverNode),
+    ("unwritten", Fault::Unwritten),
+    ("previous_lost", Fault::PreviousLost),
+    ("text_ignored", Fault::TextIgnored),
+    ("untouched", Fault::Untouched),
+    ("blank_later", Fault::BlankLater),
+    ("unswapping", Fault::Unswapping),
+];
+
+/// An accepted row as the Rust has it.
+pub struct TrueRow<'a> {
+    pub before: &'a Vec<Column<u32>>,
+    pub row: &'a Row,
+    pub shape: &'a Shape,
+    /// Whether a row was accepted before.
+    pub later: bool,
+    /// The foot lines of the accepted row before.
+    pub above: &'a [Vec<Stroke>; RENDERERS],
+}
+
+/// What an accepted row leaves and shows.
+pub struct Outcome {
+    pub columns: Vec<Column<u32>>,
+    pub drawn: Drawn,
+}
+
+impl Fault {
+    /// The fault with this name.
+    pub fn new(name: &str) -> Result<Fault, String> {
+        let found = NAMES.iter().find(|(known, _)| *known == name);
+        found.map(|(_, fault)| *fault).ok_or_else(|| {
+            let names = NAMES.map(|(name, _)| name).join(" ");
+            format!("{name} is no mutant; these are: {names}")
+        })
+    }
+
+    /// The fault's name.
+    pub fn name(self) -> &'static str {
+        let found = NAMES.iter().find(|(_, fault)| *fault == self);
+        found.expect("every fault has a name").0
+    }
+
+    /// The columns after an accepted reservation, in place of those that the Rust leaves.
+    pub fn reserved(
+        self,
+        before: &Vec<Column<u32>>,
+        id: u32,
+        mut columns: Vec<Column<u32>>,
+    ) -> Vec<Column<u32>> {
+        if before.find(&id).is_some() {
+            return columns;
+        }
+        match self {
+            Fault::Forgetting => before.clone(),
+            Fault::Doubling if columns.len() < refusals::COLUMNS => {
+                columns.push(Column::Reserved(id));
+                columns
+            }
+            Fault::Turning => {
+                columns.reverse();
+                trimmed(columns)
+            }
+            _ => columns,
+        }
+    }
+
+    /// Does to an accepted row what the fault says.
+    pub fn spoil(self, row: &TrueRow, outcome: &mut Outcome) {
+        match self {
+            Fault::Keeping => row.keep(outcome),
+            Fault::Blocking => row.block(outcome),
+            Fault::Untrimmed => outcome
+                .columns
+                .resize(row.shape.row.node_line.len(), Column::Empty),
+            Fault::Pulling => row.pull(outcome),
+            Fault::FarFromOwn if row.is_held() => row.far_with_line_above(outcome),
+            Fault::OnAnother if row.is_beside() => row.on_last(outcome),
+            Fault::FarRight if !row.is_held() => row.far(outcome),
+            Fault::BlankFeet if row.later => outcome.alter(|_, lines| blank(&mut lines.foot)),
+            Fault::ReservedDrawn => outcome.draw_reserved(),
+            Fault::Garbling => row.garble(outcome),
+            Fault::BlankHeads => outcome.alter(|_, lines| blank(&mut lines.head)),
+            Fault::DashedOverNode => row.repeat_above(outcome),
+            Fault::Unwritten => outcome.drawn.lines.fill(Err("no lines".to_owned())),
+            Fault::Untouched => outcome.columns.clone_from(row.before),
+            Fault::BlankLater if row.later => outcome.alter(|_, lines| {
+                blank(&mut lines.head);
+                blank(&mut lines.foot);
+            }),
+            Fault::Unswapping => row.unswap(outcome),
+            _ => {}
+        }
+    }
+}
+
+impl TrueRow<'_> {
+    /// The node's column.
+    fn node(&self) -> usize {
+        self.shape.row.node_column
+    }
+
+    /// Whether a column holds the node's id.
+    fn is_held(&self) -> bool {
+        self.before.find(&self.row.node).is_some()
+    }
+
+    /// Whether no column holds the node's id, there are columns, and none of them is Empty.
+    fn is_beside(&self) -> bool {
+        !self.is_held() && !self.before.is_empty() && self.before.first_empty().is_none()
+    }
+
+    /// The column of the single entry that is swapped.
+    fn swapped(&self) -> Option<usize> {
+        let [entry] = self.row.entries.as_slice() else {
+            return None;
+        };
+        let held = waiting::named(entry).and_then(|id| self.before.find(&id));
+        held.filter(|held| *held > self.node())
+    }
+
+    /// Keeps the node's id as Reserved in the node's column.
+    fn keep(&self, outcome: &mut Outcome) {
+        let (columns, node) = (&mut outcome.columns, self.node());
+        let free = columns.get(node).is_none_or(|it| *it == Column::Empty);
+        if free && columns.find(&self.row.node).is_none() {
+            columns.resize(columns.len().max(node + 1), Column::Empty);
+            columns[node] = Column::Reserved(self.row.node);
+        }
+    }
+
+    /// Leaves the columns of the row's Anonymous entries Blocked.
+    fn block(&self, outcome: &mut Outcome) {
+        let columns = &mut outcome.columns;
+        let cells = self.shape.row.term_line.iter().flatten().enumerate();
+        for (place, _) in cells.filter(|(_, ends)| **ends) {
+            columns.resize(columns.len().max(place + 1), Column::Empty);
+            columns[place] = Column::Blocked;
+        }
+    }
+
+    /// Puts the id that is swapped into a new last column, behind all columns of the row.
+    fn pull(&self, outcome: &mut Outcome) {
+        let width = self.shape.row.node_line.len();
+        if self.swapped().is_none() || width >= refusals::COLUMNS {
+            return;
+        }
+        let columns = &mut outcome.columns;
+        columns.resize(width, Column::Empty);
+        let pulled = std::mem::replace(&mut columns[self.node()], Column::Empty);
+        columns.push(pulled);
+        outcome.draw_feet();
+    }
+
+    /// Undoes the swap, if there is one, and draws the foot line from the columns.
+    fn unswap(&self, outcome: &mut Outcome) {
+        if let Some(right) = self.swapped() {
+            let mut columns = std::mem::take(&mut outcome.columns);
+            columns.resize(columns.len().max(right + 1), Column::Empty);
+            columns.swap(self.node(), right);
+            outcome.columns = trimmed(columns);
+        }
+        outcome.draw_feet();
+    }
+
+    /// Reports the node far right of the columns, without a swap.
+    fn far(&self, outcome: &mut Outcome) {
+        self.unswap(outcome);
+        outcome.drawn.node = self.before.len() + FAR;
+    }
+
+    /// Reports the node far right of the columns, without a swap; the head line is the line above.
+    fn far_with_line_above(&self, outcome: &mut Outcome) {
+        self.far(outcome);
+        self.repeat_above(outcome);
+    }
+
+    /// Gives each head line the cells of the line above.
+    fn repeat_above(&self, outcome: &mut Outcome) {
+        outcome.alter(|renderer, lines| lines.head.clone_from(&self.above[renderer]));
+    }
+
+    /// Reports the node in the last column, with the head line that demand 3 then has.
+    fn on_last(&self, outcome: &mut Outcome) {
+        let last = self.before.len() - 1;
+        outcome.drawn.node = last;
+        self.meet(outcome, last);
+    }
+
+    /// Makes every blank cell of a foot line another glyph; a head line repeats the line above.
+    fn garble(&self, outcome: &mut Outcome) {
+        self.meet(outcome, self.node());
+        outcome.alter(|_, lines| {
+            let blank = |cell: &&mut Stroke| **cell == Stroke::Blank;
+            let cells = lines.foot.iter_mut();
+            cells.filter(blank).for_each(|cell| *cell = Stroke::Other);
+        });
+    }
+
+    /// Gives each head line the cells that demand 3 has below the line above.
+    fn meet(&self, outcome: &mut Outcome, node: usize) {
+        outcome.alter(|renderer, lines| {
+            lines.head = lines::head_below(&self.above[renderer], node);
+        });
+    }
+}
+
+impl Outcome {
+    /// Alters the lines of each renderer.
+    fn alter(&mut self, change: impl Fn(usize, &mut Lines)) {
+        for (renderer, lines) in self.drawn.lines.iter_mut().enumerate() {
+            if let Ok(lines) = lines {
+                change(renderer, lines);
+            }
+        }
+    }
+
+    /// Draws each foot line from the columns.
+    fn draw_feet(&mut self) {
+        let feet = lines::drawn_from(&self.columns);
+        self.alter(|_, lines| lines.foot.clone_from(&feet));
+    }
+
+    /// Draws a solid stroke below every reserved column.
+    fn draw_reserved(&mut self) {
+        let columns = self.columns.clone();
+        self.alter(|_, lines| {
+            lines
+                .foot
+                .resize(lines.foot.len().max(columns.len()), Stroke::Blank);
+            for (cell, column) in lines.foot.iter_mut().zip(&columns) {
+                if matches!(column, Column::Reserved(_)) {
+                    *cell = Stroke::Solid;
+                }
+            }
+        });
+    }
+}
+
+/// Columns without the Empty ones at their end.
+fn trimmed(mut columns: Vec<Column<u32>>) -> Vec<Column<u32>> {
+    let used = columns.iter().rposition(|it| *it != Column::Empty);
+    columns.truncate(used.map_or(0, |last| last + 1));
+    columns
+}
+
+/// Blanks a line.
+fn blank(line: &mut [Stroke]) {
+    line.fill(Stroke::Blank);
+}

@@ -1,0 +1,306 @@
+//! Our program's answers to histories. `replay` prints no shape for a text call, so that it runs twice: with the calls as they are, which gives
+//! each verdict and the shaper after it, and with each accepted text call replaced by the row call as which it counts, each accepted row drawn
+//! by all renderers. No answer is the Rust's; the lists are made with its help.
+
+use std::collections::VecDeque;
+
+use crate::column::Column;
+use crate::machine::OUTPUT;
+use crate::refusals;
+use crate::replay::Ended;
+use crate::replay::Replay;
+use crate::stream::encode;
+use crate::stream::Command;
+use crate::stream::Drawing;
+use crate::stream::Options;
+
+use super::lines::RENDERERS;
+use super::printed::Printed;
+use super::printed::RowAnswer;
+use super::seen;
+use super::seen::Answers;
+use super::seen::Begun;
+use super::seen::Drawn;
+use super::seen::Seen;
+use super::seen::View;
+use super::seen::Written;
+use super::waiting;
+
+/// The most bytes that one command prints beside its output.
+const PRINTED: usize = 1 << 16;
+
+/// The answers to one history.
+pub struct Answered {
+    number: u8,
+    fresh: Vec<Column<u32>>,
+    seen: VecDeque<Seen>,
+}
+
+impl Answers for Answered {
+    fn new_shaper(&mut self, _options: &Options) -> Begun {
+        Begun {
+            number: self.number,
+            columns: self.fresh.clone(),
+        }
+    }
+
+    fn call(&mut self, _call: &Command) -> Seen {
+        self.seen.pop_front().expect("an answer for each call")
+    }
+}
+
+/// A history that the first run has answered.
+struct Answering<'a> {
+    /// The list's number, from which on the marks take turns.
+    list: u32,
+    options: &'a Options,
+    calls: &'a [Command],
+    /// What the new shaper call gave.
+    number: u8,
+    fresh: View,
+    /// What each call gave: its refusal number and the shaper after it, of a row call all.
+    given: Vec<Given>,
+}
+
+/// What a call gave.
+#[derive(Clone, Debug, PartialEq, Eq)]
+struct Given {
+    number: u8,
+    shaper: View,
+    /// Of a row call.
+    row: Option<RowAnswer>,
+}
+
+/// Our program's answers to histories; the first is the list with this number.
+pub fn answers(
+    replay: &Replay,
+    first: u32,
+    histories: &[Vec<Command>],
+) -> Result<Vec<Answered>, String> {
+    let lists = || (first..).zip(histories);
+    let stream: Vec<_> = lists()
+        .flat_map(|(list, history)| [&[Command::List(list)], history.as_slice()].concat())
+        .collect();
+    let answering: Vec<_> = run(replay, &stream, |printed| {
+        lists()
+            .map(|(list, history)| Answering::read(list, history, printed))
+            .collect()
+    })?;
+    let stream: Vec<_> = answering.iter().flat_map(Answering::commands).collect();
+    run(replay, &stream, |printed| {
+        answering
+            .iter()
+            .map(|history| history.draw(printed))
+            .collect()
+    })
+}
+
+/// Runs the program on these commands and reads all that it prints.
+fn run<T>(
+    replay: &Replay,
+    commands: &[Command],
+    read: impl FnOnce(&mut Printed) -> Result<T, String>,
+) -> Result<T, String> {
+    let most = commands.iter().map(|it| PRINTED + output(it)).sum();
+    let run = replay.run(&encode(commands), most);
+    if let Ended::Badly(words) = run.ended {
+        return Err(format!("{}: {words}", replay.program.display()));
+    }
+    let mut printed = Printed::new(&run.printed);
+    let answers = read(&mut printed).and_then(|answers| {
+        printed.end()?;
+        Ok(answers)
+    });
+    answers.map_err(|words| format!("the program's answers cannot be read: {words}"))
+}
+
+/// The output length of a command that has one.
+fn output(command: &Command) -> usize {
+    let length = match command {
+        Command::Text(text) => text.drawing.length,
+        Command::Renderer(drawing) => drawing.length,
+        _ => 0,
+    };
+    length.min(OUTPUT) as usize
+}
+
+impl<'a> Answering<'a> {
+    /// Reads the first run's answers to a history.
+    fn read(list: u32, history: &'a [Command], printed: &mut Printed) -> Result<Self, String> {
+        let Some((Command::New(options), calls)) = history.split_first() else {
+            unreachable!("a new shaper")
+        };
+        printed.list(list)?;
+        let (number, fresh) = printed.new_shaper()?;
+        let given = calls.iter().map(|call| given(call, printed));
+        Ok(Self {
+            list,
+            options,
+            calls,
+            number,
+            fresh,
+            given: given.collect::<Result<_, _>>()?,
+        })
+    }
+
+    /// Each call with the shaper before it and what the first run gave for it.
+    fn steps(&self) -> impl Iterator<Item = Step<'_>> {
+        let shapers = self.given.iter().map(|given| &given.shaper);
+        let before = std::iter::once(&self.fresh).chain(shapers);
+        let calls = self.calls.iter().zip(&self.given).zip(before);
+        let mut turn = u64::from(self.list);
+        calls.map(move |((call, given), before)| {
+            let step = Step {
+                call,
+                given,
+                before,
+                mark: seen::mark(turn),
+            };
+            turn += u64::from(step.is_drawn());
+            step
+        })
+    }
+
+    /// The history for the second run.
+    fn commands(&self) -> Vec<Command> {
+        let mut commands = vec![Command::List(self.list), Command::New(self.options.clone())];
+        commands.extend(self.steps().flat_map(|step| step.commands()));
+        commands
+    }
+
+    /// Reads the second run's answers to a history.
+    fn draw(&self, printed: &mut Printed) -> Result<Answered, String> {
+        printed.list(self.list)?;
+        if printed.new_shaper()? != (self.number, self.fresh.clone()) {
+            return Err("the program answers a new shaper call in two ways".to_owned());
+        }
+        let seen = self.steps().map(|step| self.seen(&step, printed));
+        Ok(Answered {
+            number: self.number,
+            fresh: self.fresh.columns.clone(),
+            seen: seen.collect::<Result<_, _>>()?,
+        })
+    }
+
+    /// What is seen of a call in both runs.
+    fn seen(&self, step: &Step, printed: &mut Printed) -> Result<Seen, String> {
+        let second = step.second(printed)?;
+        let drawn = match &second.row {
+            Some(row) if step.is_drawn() => Some(Drawn {
+                node: row.node,
+                lines: self.lines(step, printed)?,
+            }),
+            _ => None,
+        };
+        Ok(Seen {
+            number: step.given.number,
+            columns: step.given.shaper.columns.clone(),
+            drawn,
+            differs: step.difference(&second),
+        })
+    }
+
+    /// The lines that each renderer call writes.
+    fn lines(&self, step: &Step, printed: &mut Printed) -> Result<[Written; RENDERERS], String> {
+        let dashes = seen::dashes(self.options, self.number);
+        let mut lines = Vec::new();
+        for renderer in 0..RENDERERS {
+            let (number, bytes) = printed.renderer(step.room())?;
+            let text = String::from_utf8(bytes.to_vec()).map_err(|error| error.to_string());
+            let given = match number {
+                0 => text,
+                number => Err(format!("refusal {number}")),
+            };
+            lines.push(seen::written(given, renderer, dashes));
+        }
+        Ok(lines.try_into().expect("as many as there are renderers"))
+    }
+}
+
+/// A call, what the first run gave for it, the shaper before it, and the mark with which its row is drawn.
+struct Step<'a> {
+    call: &'a Command,
+    given: &'a Given,
+    before: &'a View,
+    mark: u8,
+}
+
+impl Step<'_> {
+    /// Whether the call is an accepted row or text call.
+    fn is_drawn(&self) -> bool {
+        self.given.number == 0 && waiting::row_of(self.call).is_some()
+    }
+
+    /// The commands of the second run: the call, an accepted text call as its row call and a refused one left out, then a drawn row's renderer calls.
+    fn commands(&self) -> Vec<Command> {
+        let mut commands = match self.call {
+            Command::Text(_) if self.given.number != 0 => Vec::new(),
+            Command::Text(text) => vec![Command::Row(text.row.clone())],
+            call => vec![call.clone()],
+        };
+        if self.is_drawn() {
+            commands.extend((0..RENDERERS).map(|renderer| {
+                Command::Renderer(Drawing {
+                    renderer: renderer as u8,
+                    mark: self.mark,
+                    length: self.room() as u32,
+                })
+            }));
+        }
+        commands
+    }
+
+    /// An output length that is enough for the row's lines: nine of them at most, each with eight bytes at most for a cell.
+    fn room(&self) -> usize {
+        let entries = waiting::row_of(self.call).map_or(0, |row| row.entries.len());
+        let width = self.before.columns.len() + entries + 2;
+        9 * (8 * width.min(refusals::COLUMNS) + 2)
+    }
+
+    /// What the second run gave for the call; a refused text call, which it leaves out, leaves the shaper as it was.
+    fn second(&self, printed: &mut Printed) -> Result<Given, String> {
+        match self.call {
+            Command::Text(_) if self.given.number != 0 => Ok(Given {
+                number: self.given.number,
+                shaper: self.before.clone(),
+                row: None,
+            }),
+            Command::Text(text) => given(&Command::Row(text.row.clone()), printed),
+            call => given(call, printed),
+        }
+    }
+
+    /// Words for how the second run differs from the first, if it does.
+    fn difference(&self, second: &Given) -> Option<String> {
+        let first = self.given;
+        let differs = match self.call {
+            Command::Text(_) => (first.number, &first.shaper) != (second.number, &second.shaper),
+            _ => first != second,
+        };
+        differs.then(|| format!("{first:?} with text calls, {second:?} with their row calls"))
+    }
+}
+
+/// Reads what a call gave.
+fn given(call: &Command, printed: &mut Printed) -> Result<Given, String> {
+    let (number, shaper, row) = match call {
+        Command::Reserve(_) => {
+            let (number, shaper) = printed.reserve()?;
+            (number, shaper, None)
+        }
+        Command::Row(_) => {
+            let row = printed.row()?;
+            (row.number, row.shaper.clone(), Some(row))
+        }
+        Command::Text(_) => {
+            let (number, shaper) = printed.text(output(call))?;
+            (number, shaper, None)
+        }
+        _ => unreachable!("a reserving, row or text call"),
+    };
+    Ok(Given {
+        number,
+        shaper,
+        row,
+    })
+}

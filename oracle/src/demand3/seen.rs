@@ -1,0 +1,104 @@
+//! What is seen of a machine: its answers to the calls of a history.
+
+use crate::calls::Shaper;
+use crate::codes;
+use crate::column::Column;
+use crate::pipeline::types::DashStyle;
+use crate::pipeline::types::GraphRowShapeStyle;
+use crate::stream::Command;
+use crate::stream::Options;
+
+use super::lines;
+use super::lines::Lines;
+use super::lines::RENDERERS;
+
+/// The first mark that passes.
+const FIRST_MARK: u8 = 0x21;
+/// How many marks pass.
+const MARKS: u64 = 0x7e - 0x21 + 1;
+
+/// A machine's answers to one history, call after call.
+pub trait Answers {
+    /// What is seen of the new shaper call.
+    fn new_shaper(&mut self, options: &Options) -> Begun;
+
+    /// What is seen of the next reserving, row or text call.
+    fn call(&mut self, call: &Command) -> Seen;
+}
+
+/// What is seen of a new shaper call.
+pub struct Begun {
+    /// The refusal number, 0 for none.
+    pub number: u8,
+    /// The columns of the shaper that it gives.
+    pub columns: Vec<Column<u32>>,
+}
+
+/// What is seen of a reserving, row or text call.
+pub struct Seen {
+    /// The refusal number, 0 for none.
+    pub number: u8,
+    /// The columns after the call.
+    pub columns: Vec<Column<u32>>,
+    /// Of an accepted row or text call.
+    pub drawn: Option<Drawn>,
+    /// How a text call differs from the row call with its node and entries, if it does.
+    pub differs: Option<String>,
+}
+
+/// What is seen of an accepted row: the node's column, and for each renderer the head and foot lines that its call writes.
+pub struct Drawn {
+    pub node: usize,
+    pub lines: [Written; RENDERERS],
+}
+
+/// The lines that a renderer call writes, or words for what it does instead.
+pub type Written = Result<Lines, String>;
+
+/// All of a shaper that can be seen.
+#[derive(Clone, Debug, PartialEq, Eq)]
+pub struct View {
+    pub height: usize,
+    pub stagger: bool,
+    pub style: GraphRowShapeStyle,
+    pub previous: Option<usize>,
+    pub columns: Vec<Column<u32>>,
+}
+
+impl View {
+    /// What can be seen of the Rust's shaper.
+    pub fn new(shaper: &Shaper) -> Self {
+        let options = shaper.options();
+        Self {
+            height: options.min_row_height,
+            stagger: options.stagger_consecutive_disconnected_nodes,
+            style: options.graph_row_shape_style,
+            previous: shaper.previous_node_column(),
+            columns: shaper.columns().clone(),
+        }
+    }
+}
+
+/// Words for the shaper after a text call, where it differs from the one after the row call.
+pub fn difference(text: &View, row: &View) -> Option<String> {
+    (text != row).then(|| format!("the text call leaves {text:?}, the row call {row:?}"))
+}
+
+/// The mark with which a row is drawn; they take turns.
+pub fn mark(turn: u64) -> u8 {
+    FIRST_MARK + (turn % MARKS) as u8
+}
+
+/// The dashes of the shaper that a new shaper call gives; that of a refused one are Persistent.
+pub fn dashes(options: &Options, number: u8) -> DashStyle {
+    codes::dash(if number == 0 { options.dash } else { 0 })
+}
+
+/// The head and foot lines out of what a renderer call wrote, or gave instead.
+pub fn written(given: Result<String, String>, renderer: usize, dashes: DashStyle) -> Written {
+    let decoded = given
+        .as_ref()
+        .ok()
+        .and_then(|lines| lines::decode(lines, renderer, dashes));
+    decoded.ok_or_else(|| format!("renderer {renderer} gives {given:?}"))
+}
