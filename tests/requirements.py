@@ -1,12 +1,12 @@
 #!/usr/bin/env python3
-"""What docs/REQUIREMENTS.md names is there, and every must-fail edit is named in it.
+"""What docs/REQUIREMENTS.md names is there, and every must-fail edit and every mutant of demand 3 is named in it.
 
 Each name in backquotes, but for those in the quotations of document 01 (a table's left column), is looked up:
 - `a/path`: a file or folder, below crates/ unless it begins with one of PLACES, or a must-fail edit, `crate/label`;
 - `path` `a`, `b`, and `a`, `b` of `path`: defined in that file;
 - `crate::function`, `crate::Type::function`: a function of that crate, with a contract;
 - `T` (`a`), `T` (its field `a`), field `a` of `T`: stands in a definition of T, or in T's contract;
-- crate, program or test `a`: one of these;
+- crate, program, test or mutant `a`: one of these, a mutant as `test` and oracle/src/demand3/faults.rs name it;
 - any other: a crate, or defined in some file of the crates."""
 import glob
 import os
@@ -15,6 +15,7 @@ import sys
 import textwrap
 
 DOCUMENT = "docs/REQUIREMENTS.md"
+FAULTS = "oracle/src/demand3/faults.rs"
 PLACES = ("oracle/", "tests/", "examples/", "docs/", "crates/", "./")
 
 # names in backquotes that are nothing of ours: words of the language, of an answer and of the document, and files of a program
@@ -66,6 +67,7 @@ class Sources:
         self.files = {path: Source(path) for path in paths}
         self.crates = {line.split(":")[0] for line in read("crates.txt").splitlines()}
         self.tests = set(re.findall(r"(?m)^ *check (\S+)", read("test")))
+        self.mutants = set(re.findall(r"(?m)^(\w+) ", re.search(r"(?s)wrong_machines='(.*?)'", read("test"))[1]))
         self.names = set.union(self.crates, *(file.names for file in self.files.values()))
 
     def heads(self, name):
@@ -110,11 +112,11 @@ class Frame:
 
 
 class Reader:
-    """Reads the document, and collects the must-fail edits that it names and what is not there."""
+    """Reads the document, and collects the must-fail edits and mutants that it names and what is not there."""
 
     def __init__(self):
         self.sources = Sources()
-        self.faults, self.edits, self.count, self.line = [], set(), 0, 0
+        self.faults, self.edits, self.mutants, self.count, self.line = [], set(), set(), 0, 0
 
     def demand(self, holds, name, words):
         if not holds:
@@ -158,6 +160,9 @@ class Reader:
             self.demand(name in self.sources.crates, name, "is no crate")
         elif re.search(r"\btests?$", frame.lead):
             self.demand(name in self.sources.tests, name, "is no test")
+        elif re.search(r"\bmutants?$", frame.lead):
+            self.mutants.add(name)
+            self.demand(name in self.sources.mutants, name, "is no mutant")
         elif frame.file:
             self.demand(name in frame.file.names, name, "is not defined in the file that is named in front of it")
         elif frame.owner and re.search(r"\bits( fields?)?$", frame.lead):
@@ -185,6 +190,8 @@ def main():
     edits = [path.split("/") for path in sorted(glob.glob("crates/*/must-fail/*.edit"))]
     names = [f"{crate}/{os.path.splitext(file)[0]}" for _, crate, _, file in edits]
     faults = reader.faults + [f"{DOCUMENT} does not name the must-fail edit `{name}`" for name in names if name not in reader.edits]
+    faults += [f"only one of `test` and {FAULTS} names the mutant `{name}`" for name in sorted(reader.sources.mutants ^ set(re.findall(r'\("(\w+)", Fault::', read(FAULTS))))]
+    faults += [f"{DOCUMENT} does not name the mutant `{name}`" for name in sorted(reader.sources.mutants - reader.mutants)]
     for fault in faults:
         print(fault)
     print(f"{reader.count} names and {len(names)} must-fail edits looked at")

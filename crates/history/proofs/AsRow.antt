@@ -1,7 +1,7 @@
 -- A text call counts as the row call with its node and entries: where it is accepted so is the row, and the shaper after it is the row's; refused, it changes nothing.
 use Prim.Native.Nat.{ℕ, zero, suc}
 use mathlib.Core.Path.{_≡_, refl, sym, _∙_}
-use mathlib.Core.Bool.{Bool, true, false, cond, not}
+use mathlib.Core.Bool.{Bool, true, false, cond, not, false≢true}
 use mathlib.Core.List.{List}
 use native.Mathlib.Omega.{arith}
 use borrow.Author.Tests.{eqb-true}
@@ -11,12 +11,14 @@ use Rattle.render.specs.declared.render.Ancestor.{Ancestor as Entry}
 use Rattle.render.specs.Mark.{isMark}
 use Rattle.render.specs.Refusals.{notRefused, markOutsideSpan, messageTooLong, messageByteNotWritable, outputShorterThanLines, refusal}
 use Rattle.shaper.specs.Shaper.{View}
-use Rattle.row_shape.specs.Row.{RowReply, row}
+use Rattle.placing.specs.Placing.{place}
+use Rattle.row_shape.specs.Row.{RowReply, rowChecks, rowAnswer, row}
 use Rattle.glyphs.specs.Cells.{glyphsOf}
 use Rattle.message.specs.Message.{messageLimit, isWritable, allOf, linesOf}
 use Rattle.output.specs.Output.{finish, textOf, TextView}
 use Rattle.text.specs.Text.{textLines, textAfter, textChecks, textAnswer, textWith}
-use Rattle.history.specs.Ours.{TextArguments, textOn}
+use Rattle.history.specs.Account.{Call, Reserve, Row, isDrawn}
+use Rattle.history.specs.Ours.{TextArguments, Item, Plain, Text, callOf, textOn, isRefusal, refuses}
 
 -- where no check holds, the row's own refusal is none
 passes : (a b c z d : Bool) (r : ℕ) → eqb r 0 ≡ z → cond a markOutsideSpan (cond b messageTooLong (cond c messageByteNotWritable (cond (not z) r (cond d outputShorterThanLines notRefused)))) ≡ 0 → r ≡ 0
@@ -59,3 +61,27 @@ module _ (v : View) (a : TextArguments) (n : ℕ) (es : List Entry) where
   pub refused-view : (k : ℕ) → textOn v a n es .refusal ≡ suc k → textOn v a n es .view ≡ v
   unfolding textWith
   refused-view k h = let e : number ≡ suc k = sym number-is ∙ h in rw e
+
+-- a refused row call changes nothing
+pub row-refused : (v : View) (n : ℕ) (es : List Entry) (k : ℕ) → row v n es .refusal ≡ suc k → row v n es .view ≡ v
+unfolding row
+row-refused v n es k h = go (refusal (rowChecks es (place v n es))) h
+  where
+    go : (r : ℕ) → rowAnswer r v n es (place v n es) .refusal ≡ suc k → rowAnswer r v n es (place v n es) .view ≡ v
+    go zero z = absurd (omega (arith, z))
+    go (suc r) z = refl
+
+-- the number that the row call of a call gives
+abbrev pub rowNumber : View → Call → ℕ
+rowNumber v (Reserve n) = 0
+rowNumber v (Row n es) = row v n es .refusal
+
+accepted-number : (r : ℕ) → not (isRefusal r) ≡ true → r ≡ 0
+accepted-number zero h = refl
+accepted-number (suc r) h = absurd (false≢true h)
+
+-- an item that is drawn counts as a row call that is accepted
+pub drawn-accepted : (v : View) (k : Item) → isDrawn (callOf k) (refuses v k) ≡ true → rowNumber v (callOf k) ≡ 0
+drawn-accepted v (Plain (Reserve n)) d = refl
+drawn-accepted v (Plain (Row n es)) d = accepted-number (row v n es .refusal) d
+drawn-accepted v (Text t n es) d = row-accepted v t n es (accepted-number (textOn v t n es .refusal) d)

@@ -1,25 +1,33 @@
--- M7 as lent calls: contracts that a run meets, so that what is said of every run is said of some.
-use Prim.Native.Nat.{ℕ, zero, suc}
+-- M7 as lent calls: contracts that a run meets, so that what is said of every run is said of some; and right answers of single calls.
+use Prim.Native.Nat.{ℕ, zero, suc, _-_}
 use mathlib.Core.Path.{_≡_, refl, sym, ap}
 use mathlib.Core.Bool.{false, false≢true}
-use mathlib.Core.List.{List, [], _∷_}
+use mathlib.Core.List.{List, [], _∷_, _++_, map}
 use native.Mathlib.Omega.{arith}
-use lib.ListN.{getD, replicate}
+use lib.ListN.{length, getD, replicate}
+use Rattle.column.specs.declared.Column.{Column}
 use Rattle.column.specs.declared.Column.the-variants as column
-use Rattle.column.specs.declared.Found.the-variants.{At}
-use Rattle.column.specs.Columns.{emptySlot}
+use Rattle.column.specs.declared.Found.{Found}
+use Rattle.column.specs.declared.Found.the-variants.{At, Nothing}
+use Rattle.column.specs.Columns.{columnLimit, SpareEmpty, emptySlot}
 use Rattle.render.specs.declared.types.DashStyle.the-variants.{Persistent}
 use Rattle.render.specs.declared.types.LinkLinePlacement.the-variants.{Top}
 use Rattle.render.specs.declared.types.Options.{Options}
+use Rattle.render.specs.Refusals.{noColumnLeft}
 use Rattle.shaper.specs.declared.Shaper.{Shaper}
 use Rattle.shaper.specs.declared.Answer.{Answer}
 use Rattle.shaper.specs.Shaper.{reserve, isNothing, fresh, Fresh}
 use Rattle.placing.specs.Placing.{place}
 use Rattle.row_shape.specs.Row.{row}
+use Rattle.width.specs.declared.NewNode.the-variants.{Node, Absent}
+use Rattle.width.specs.Width.{width}
 use Rattle.marked.specs.Marked.{m7-row}
+use Rattle.lineage.specs.declared.ShapeAnswer.{ShapeAnswer}
+use Rattle.lineage.specs.Promises.{LentReserves, LentWidth}
 use Rattle.history.specs.LentCalls.{LentCall, ReserveRan, RowRan, Met, Ran}
 
-abbrev options : Options
+-- "height 1 without staggering", Persistent, Top (01, "Added by us")
+abbrev pub options : Options
 options =
     record {
       «min_row_height» = 1;
@@ -27,22 +35,56 @@ options =
       «graph_row_shape_style» = record { «dash_style» = Persistent; «link_line_placement» = Top };
     }
 
-abbrev new : Answer
+-- what the new shaper call gives for these options
+abbrev pub new : Answer
 new = record { refusal = 0; shaper = fresh options }
 
+-- what it gives meets its contract
 pub is-new : Fresh options new
 is-new = record { reply = refl; whole = refl; options = λ z. refl }
 
-abbrev reserved : Shaper
-reserved = record { slots = record { column = column.Reserved 9 } ∷ replicate 63 emptySlot; count = 1; «previous_node_column» = fresh options .«previous_node_column»; options = options }
+-- a shaper with these columns and this previous node column; the slots past them are Empty
+abbrev pub holding : List Column → Found → Shaper
+holding cs p =
+    record {
+      slots = map (λ (c : Column). record { column = c }) cs ++ replicate (columnLimit - length cs) emptySlot;
+      count = length cs;
+      «previous_node_column» = p;
+      options = options;
+    }
 
-abbrev ended : Shaper
-ended = record { slots = replicate 64 emptySlot; count = 0; «previous_node_column» = At 0; options = options }
+-- of Empty slots each is Empty
+all-empty : (n i : ℕ) → (getD (replicate n emptySlot) i emptySlot) .column ≡ column.Empty
+all-empty zero i = refl
+all-empty (suc n) zero = refl
+all-empty (suc n) (suc i) = all-empty n i
 
+-- and so are those behind some columns
+pub spare-empty : (cs : List Column) (n : ℕ) → SpareEmpty (length cs) (map (λ (c : Column). record { column = c }) cs ++ replicate n emptySlot)
+spare-empty [] n i h = all-empty n i
+spare-empty (c ∷ cs) n zero h = absurd (omega (arith, h))
+spare-empty (c ∷ cs) n (suc i) h = spare-empty cs n i (omega (arith, h))
+
+-- ---- M7: "Reserve 9, row 9" (01, "Marked rows")
+
+-- the shaper after the reservation
+abbrev pub reserved : Shaper
+reserved = holding (column.Reserved 9 ∷ []) Nothing
+
+-- and after the row
+abbrev pub ended : Shaper
+ended = holding [] (At 0)
+
+-- what the row call gives
+abbrev pub m7-answer : ShapeAnswer
+m7-answer = record { refusal = m7-row .refusal; shape = m7-row .shape }
+
+-- both calls
 abbrev pub calls : List LentCall
-calls = ReserveRan 9 reserved 0 ∷ RowRan 9 [] ended (record { refusal = m7-row .refusal; shape = m7-row .shape }) ∷ []
+calls = ReserveRan 9 reserved 0 ∷ RowRan 9 [] ended m7-answer ∷ []
 
-reserves : Met (fresh options) (ReserveRan 9 reserved 0)
+-- the reservation meets its contract
+pub reserves : Met (fresh options) (ReserveRan 9 reserved 0)
 unfolding reserve
 reserves =
     record {
@@ -54,14 +96,69 @@ reserves =
       options = refl;
     }
 
-rows : Met reserved (RowRan 9 [] ended (record { refusal = m7-row .refusal; shape = m7-row .shape }))
+-- the row meets its contract
+pub rows : Met reserved (RowRan 9 [] ended m7-answer)
 unfolding reserve row place
-rows = record { reply = refl; refused = λ z. absurd (z refl); fits = λ z. omega arith; options = refl; rest = λ z i h. spare 64 i }
-  where
-    spare : (n i : ℕ) → (getD (replicate n emptySlot) i emptySlot) .column ≡ column.Empty
-    spare zero i = refl
-    spare (suc n) zero = refl
-    spare (suc n) (suc i) = spare n i
+rows = record { reply = refl; refused = λ z. absurd (z refl); fits = λ z. omega arith; options = refl; rest = λ z. spare-empty [] columnLimit }
 
+-- both do, one after the other
 pub ran : Ran (new .shaper) calls
 ran = (reserves, (rows, tt))
+
+-- ---- M9: "After 64 reservations a new id gives 2" (01, "Marked rows")
+
+-- the ids below n, each Reserved in its own column
+abbrev pub reservedBelow : ℕ → List Column
+reservedBelow zero = []
+reservedBelow (suc n) = reservedBelow n ++ (column.Reserved n ∷ [])
+
+-- the shaper after reservations of the ids 0 to 63
+abbrev pub full : Shaper
+full = holding (reservedBelow columnLimit) Nothing
+
+-- a new id gives 2, and nothing is stored
+pub full-refuses : LentReserves full 64 full noColumnLeft
+unfolding reserve
+full-refuses =
+    record {
+      reply = refl;
+      refused = λ z. refl;
+      held = λ i z. refl;
+      fits = λ a b. omega arith;
+      taken = λ a b. absurd (omega (arith, b));
+      options = refl;
+    }
+
+-- 64 columns, the last of them Empty
+abbrev pub last-empty : Shaper
+last-empty = holding (reservedBelow 63 ++ (column.Empty ∷ [])) Nothing
+
+-- a new id takes "the first Empty column" (01, point 3)
+pub last-empty-reserves : LentReserves last-empty 64 (holding (reservedBelow 63 ++ (column.Reserved 64 ∷ [])) Nothing) 0
+unfolding reserve
+last-empty-reserves =
+    record {
+      reply = refl;
+      refused = λ z. absurd (z refl);
+      held = λ i z. absurd (false≢true (sym (ap isNothing z)));
+      fits = λ a b. omega arith;
+      taken = λ a b. refl;
+      options = refl;
+    }
+
+-- ---- widths, the Rust's figures: "node and entries may each be absent" (01, point 3)
+
+-- without a node, on a new shaper
+pub width-without-node : LentWidth (fresh options) Absent [] (record { refusal = 0; width = 0 })
+unfolding width
+width-without-node = refl
+
+-- with one that no column holds
+pub width-with-node : LentWidth (fresh options) (Node 9) [] (record { refusal = 0; width = 1 })
+unfolding width
+width-with-node = refl
+
+-- with one that a column holds
+pub width-with-held-node : LentWidth reserved (Node 9) [] (record { refusal = 0; width = 1 })
+unfolding width
+width-with-held-node = refl

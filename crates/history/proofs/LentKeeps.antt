@@ -2,16 +2,19 @@
 use mathlib.Core.Path.{_≡_, refl, _∙_, ap, ap₂}
 use mathlib.Core.List.{List, [], _∷_, map}
 use Rattle.render.specs.declared.types.Options.{Options}
+use Rattle.render.specs.declared.types.RowShape.{RowShape}
 use Rattle.shaper.specs.declared.Shaper.{Shaper}
 use Rattle.shaper.specs.declared.Answer.{Answer}
 use Rattle.shaper.specs.Shaper.{View, Reply, viewOf, Fresh}
 use Rattle.row_shape.specs.Row.{RowReply}
 use Rattle.text.specs.Text.{TextReply}
 use Rattle.glyphs.specs.declared.Renderer.{Renderer}
-use Rattle.history.specs.Account.{Waiting, nobody}
-use Rattle.history.specs.Demand3.{Stroke, Kept, Keeps, KeepsEveryLine}
-use Rattle.history.specs.Ours.{isRefusal, refuses, after, callOf, shapeOf, ours}
-use Rattle.history.specs.LentCalls.{LentCall, ReserveRan, RowRan, TextRan, exit, number, Met, Ran, itemOf, lentShape, lent, leaves, verdicts}
+use Rattle.history.specs.Account.{nobody}
+use Rattle.history.specs.Demand3.{nothingAbove, KeepsEveryLine}
+use Rattle.history.specs.Follows.{leaves, verdicts}
+use Rattle.history.specs.Ours.{isRefusal, refuses, after, callOf, shapeOf, headLine, footLine, ours}
+use Rattle.history.specs.LentCalls.{LentCall, ReserveRan, RowRan, TextRan, exit, number, Met, Ran, itemOf, lentShape, lent}
+use Rattle.history.proofs.Alike.{Alike, AllAlike, alike-keeps}
 use Rattle.history.proofs.Keeps.{keeps-every-line}
 
 -- what a call leaves and gives, and what our machine gives for it
@@ -20,7 +23,7 @@ pub record Same (s : Shaper) (k : LentCall) : Type 0 where
   pub verdict : isRefusal (number k) ≡ refuses (viewOf s) (itemOf k)
   pub shape : lentShape s k ≡ shapeOf (viewOf s) (callOf (itemOf k))
 
-same : (s : Shaper) (k : LentCall) → Met s k → Same s k
+pub same : (s : Shaper) (k : LentCall) → Met s k → Same s k
 same s (ReserveRan n s′ r) m = record { view = ap (λ (a : Reply). a .view) (m .reply); verdict = ap (λ (a : Reply). isRefusal (a .refusal)) (m .reply); shape = refl }
 same s (RowRan n l s′ r) m =
     record { view = ap (λ (a : RowReply). a .view) (m .reply); verdict = ap (λ (a : RowReply). isRefusal (a .refusal)) (m .reply); shape = ap (λ (a : RowReply). a .shape) (m .reply) }
@@ -39,23 +42,29 @@ lent-calls-refuse q s (k ∷ ks) r =
     ap₂ _∷_ (e .verdict) (lent-calls-refuse q (exit k) ks (r .1) ∙ ap (λ (v : View). verdicts (ours q) v (map itemOf ks)) (e .view))
 
 -- ---- demand 3
-kept : (q : Renderer) (s : Shaper) (w : Waiting) (f : List Stroke) (k : LentCall) → Same s k → Kept (ours q) (viewOf s) w f (itemOf k) → Kept (lent q) s w f k
-kept q s w f k e K =
-    let c : viewOf (exit k) .columns ≡ after (viewOf s) (itemOf k) .columns = ap (λ (v : View). v .columns) (e .view) in
+pub alike : (q : Renderer) (s : Shaper) (k : LentCall) → Same s k → Alike (lent q) (ours q) s (viewOf s) k (itemOf k)
+alike q s k e =
     record {
-      waiting = rw (c, e .verdict) (K .waiting);
-      tidy = rw c (K .tidy);
-      moving = rw (c, e .verdict, e .shape) (K .moving);
-      drawn = rw (c, e .verdict, e .shape) (K .drawn);
+      columns = refl;
+      call = refl;
+      verdict = e .verdict;
+      after = ap (λ (v : View). v .columns) (e .view);
+      node = ap (λ (g : RowShape). g .«node_column») (e .shape);
+      head = ap (headLine q) (e .shape);
+      foot = ap (footLine q) (e .shape);
     }
 
-keeps : (q : Renderer) (s : Shaper) (w : Waiting) (f : List Stroke) (ks : List LentCall) → Ran s ks → Keeps (ours q) (viewOf s) w f (map itemOf ks) → Keeps (lent q) s w f ks
-keeps q s w f [] r K = tt
-keeps q s w f (k ∷ ks) r K =
+all-alike : (q : Renderer) (s : Shaper) (ks : List LentCall) → Ran s ks → AllAlike (lent q) (ours q) s (viewOf s) ks (map itemOf ks)
+all-alike q s [] r = tt
+all-alike q s (k ∷ ks) r =
     let e = same s k (r .0) in
-    (kept q s w f k e (K .0), keeps q (exit k) _ _ ks (r .1) (rw (e .view, e .verdict, e .shape) (K .1)))
+    (alike q s k e, rw (← e .view) (all-alike q (exit k) ks (r .1)))
 
 -- whatever list of lent calls has run on a new shaper, each as its contract says, a drawn history keeps every line
 pub lent-calls-keep : (q : Renderer) (o : Options) (a : Answer) → Fresh o a → (ks : List LentCall) → Ran (a .shaper) ks → KeepsEveryLine (lent q) (a .shaper) ks
 lent-calls-keep q o a n ks r =
-    keeps q (a .shaper) nobody [] ks r (rw (ap (λ (x : Reply). x .view) (n .reply)) (keeps-every-line q o (map itemOf ks)))
+    let K : KeepsEveryLine (ours q) (viewOf (a .shaper)) (map itemOf ks) = rw (ap (λ (x : Reply). x .view) (n .reply)) (keeps-every-line q o (map itemOf ks)) in
+    record {
+      fresh = K .fresh;
+      calls = alike-keeps (lent q) (ours q) (a .shaper) (viewOf (a .shaper)) ks (map itemOf ks) nobody nothingAbove (all-alike q (a .shaper) ks r) (K .calls);
+    }

@@ -57,11 +57,11 @@ pads : (f : Place → Choice) (k : Cell → PadLine) → ((p : Place) → f p �
 pads f k h i [] = refl
 pads f k h i (c ∷ cs) = ap₂ _∷_ (h _) (pads f k h (suc i) cs)
 
-head-pads : (q : Renderer) (g : RowShape) → lineOf q g PreNode .choices ≡ map padChoice (preNodeLine g)
+pub head-pads : (q : Renderer) (g : RowShape) → lineOf q g PreNode .choices ≡ map padChoice (preNodeLine g)
 unfolding choiceOf
 head-pads q g = pads (choiceOf q (rowOf g) PreNode) (λ (c : Cell). nodeToPad (g .«is_head») (c .node)) (λ p. refl) 0 (cellsOf g)
 
-foot-pads : (q : Renderer) (g : RowShape) → lineOf q g PostAncestry .choices ≡ map padChoice (postAncestryLine g)
+pub foot-pads : (q : Renderer) (g : RowShape) → lineOf q g PostAncestry .choices ≡ map padChoice (postAncestryLine g)
 unfolding choiceOf
 foot-pads q g = pads (choiceOf q (rowOf g) PostAncestry) (λ (c : Cell). footPad (g .style .«dash_style») (c .ancestry)) (λ p. refl) 0 (cellsOf g)
 

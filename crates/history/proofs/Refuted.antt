@@ -1,48 +1,132 @@
--- Demand 3 is false of each wrong machine, on a list of one or two calls.
+-- Each wrong machine fails at the clause that it breaks, on a list of one or two calls; so demand 3 is false of it (`falls` in proofs/Follows.antt).
 use Prim.Native.Nat.{ℕ}
-use mathlib.Core.Path.{_≡_, refl, sym, subst}
-use mathlib.Core.Logic.{_≢_}
-use mathlib.Core.Bool.{false}
-use mathlib.Core.List.{[], _∷_}
+use mathlib.Core.Path.{_≡_, refl, sym, ap, subst}
+use mathlib.Core.Bool.{false, false≢true}
+use mathlib.Core.List.{List, [], _∷_}
 use mathlib.Core.Option.{Option·none-ne-some, Option·some-injective}
 use native.Mathlib.Omega.{arith}
-use Rattle.render.specs.declared.render.Ancestor.the-variants.{Parent}
-use Rattle.shaper.specs.Shaper.{reserve}
+use lib.ListN.{length, replicate}
+use Rattle.column.specs.Columns.{rank}
+use Rattle.render.specs.declared.render.Ancestor.the-variants.{Ancestor, Parent, Anonymous}
+use Rattle.shaper.specs.Shaper.{isNothing, reserve}
 use Rattle.placing.specs.Placing.{place}
 use Rattle.row_shape.specs.Row.{row}
+use Rattle.glyphs.specs.declared.Renderer.the-variants.{Curved}
+use Rattle.glyphs.specs.Cells.{choiceOf, glyphsOf, bytesOf}
+use Rattle.output.specs.Output.{newText}
+use Rattle.text.specs.Text.{textWith}
 use Rattle.marked.specs.Marked.{plain}
-use Rattle.history.specs.Account.{Reserve, Row, Idle, AsReserved, AsNamed, nobody, account}
-use Rattle.history.specs.Demand3.{KeepsEveryLine}
-use Rattle.history.specs.Wrong.{untouched, blankLater, reversing, unswapping, drawsReserved}
+use Rattle.history.specs.Account.{Call, Reserve, Row, AsReserved, AsNamed, nobody, account}
+use Rattle.history.specs.Demand3.{Held, Waits, One, Unblocked, Full, Changes, To, OwnColumn, EmptyColumn, FirstColumn, Strokes, Kinds, Meets, KeepsEveryLine}
+use Rattle.history.specs.Ours.{Item, Text, ours}
+use Rattle.history.specs.Wrong.{Fails, stale, forgetting, keeping, doubling, blocking, untrimmed, turning, pulling, unswapping, farFromOwn, onAnother, farRight, blankFeet, reservedDrawn, garbling, blankHeads, dashedOverNode, untouched, blankLater, textIgnored}
+use Rattle.history.proofs.Waits.{named≢idle, reserved≢idle}
 
-named≢idle : AsNamed ≢ Idle
-named≢idle e = let z : _≡_ {A = ℕ} 0 1 = cc in omega arith
+-- a row of two parents, of which the second waits to the right, and then the first's own row, with the second as its one parent entry
+abbrev pulledRow : List Call
+pulledRow = Row 1 (Parent 2 ∷ Parent 3 ∷ []) ∷ Row 2 (Parent 3 ∷ []) ∷ []
 
-pub not-untouched : KeepsEveryLine untouched plain (Row 1 (Parent 2 ∷ []) ∷ []) → ⊥
+-- ---- the start
+pub not-stale : KeepsEveryLine (ours Curved) (stale plain) [] → ⊥
+not-stale k = let z : _≡_ {A = ℕ} 1 0 = ap length (k .fresh) in omega arith
+
+-- ---- the ids that wait
+pub not-forgetting : Fails forgetting (Held forgetting) plain (Reserve 5 ∷ [])
+unfolding reserve
+not-forgetting k = Option·none-ne-some 5 (k .0 5 reserved≢idle .1)
+
+pub not-keeping : Fails keeping (Waits keeping) plain (Row 1 [] ∷ [])
+unfolding row place
+not-keeping k = reserved≢idle (sym (k .0 0 1 refl))
+
+pub not-doubling : Fails doubling (One doubling) plain (Reserve 5 ∷ [])
+unfolding reserve
+not-doubling k = let z : _≡_ {A = ℕ} 0 1 = k .0 0 1 5 refl refl in omega arith
+
+-- ---- the columns after a call
+pub not-blocking : Fails blocking (Unblocked blocking) plain (Row 1 (Parent 2 ∷ Anonymous ∷ []) ∷ [])
+unfolding row place
+not-blocking k = k .0 1 refl
+
+pub not-untrimmed : Fails untrimmed (Full untrimmed) plain (Row 1 [] ∷ [])
+unfolding row place
+not-untrimmed k = k .0 0 refl refl
+
+-- ---- the ids that move
+pub not-turning : Fails turning (Changes turning) plain (Row 1 (Parent 2 ∷ Parent 3 ∷ []) ∷ Reserve 9 ∷ [])
 unfolding row place reserve
-not-untouched k = Option·none-ne-some 2 (k .0 .waiting .held 2 named≢idle .1)
+not-turning k = k .1 .0 2 0 2 named≢idle named≢idle refl refl (λ d. absurd (false≢true d)) .0 (λ z. omega (arith, z))
 
-pub not-blank-later : KeepsEveryLine blankLater plain (Row 1 (Parent 2 ∷ []) ∷ Row 2 (Parent 3 ∷ []) ∷ []) → ⊥
-unfolding row place reserve
-not-blank-later k = k .1 .0 .drawn refl .strokes 0 .1 (3, refl, refl)
-
-pub not-reversing : KeepsEveryLine reversing plain (Row 1 (Parent 2 ∷ Parent 3 ∷ []) ∷ Row 9 [] ∷ []) → ⊥
-unfolding row place reserve
-not-reversing k = k .1 .0 .moving 2 1 0 named≢idle named≢idle refl refl (λ o. let z : _≡_ {A = ℕ} 2 9 = o .1 in omega arith) .changes .0 (λ z. omega (arith, z)) .1
-
-pub not-unswapping : KeepsEveryLine unswapping plain (Row 1 (Parent 2 ∷ Parent 3 ∷ []) ∷ Row 2 (Parent 3 ∷ []) ∷ []) → ⊥
-unfolding row place reserve
-not-unswapping k =
-    let m = k .1 .0 .moving 3 1 1 named≢idle named≢idle refl refl (λ o. let z : _≡_ {A = ℕ} 3 2 = o .1 in omega arith) in
-    let z : _≡_ {A = ℕ} 1 0 = m .to (refl, refl, omega arith) in
+pub not-pulling : Fails pulling (To pulling) plain pulledRow
+unfolding row place
+not-pulling k =
+    let z : _≡_ {A = ℕ} 2 0 = k .1 .0 3 1 2 named≢idle named≢idle refl refl (λ d e. omega (arith, e)) (refl, refl, omega arith) in
     omega arith
 
-pub not-draws-reserved : KeepsEveryLine drawsReserved plain (Reserve 5 ∷ Row 1 (Parent 2 ∷ []) ∷ []) → ⊥
+pub not-unswapping : Fails unswapping (Changes unswapping) plain pulledRow
+unfolding row place
+not-unswapping k =
+    k .1 .0 3 1 1 named≢idle named≢idle refl refl (λ d e. omega (arith, e)) .1 (refl, refl, omega arith) refl
+
+-- ---- the node's column
+pub not-far-from-own : Fails farFromOwn (OwnColumn farFromOwn) plain (Row 1 (Parent 2 ∷ []) ∷ Row 2 [] ∷ [])
+unfolding row place
+not-far-from-own k = Option·none-ne-some 2 (k .1 .0 refl named≢idle)
+
+pub not-on-another : Fails onAnother (EmptyColumn onAnother) plain (Row 1 (Parent 2 ∷ []) ∷ Row 9 [] ∷ [])
+unfolding row place
+not-on-another k = let z : _≡_ {A = ℕ} 4 0 = ap rank (k .1 .0 refl refl) in omega arith
+
+pub not-far-right : Fails farRight (FirstColumn farRight) plain (Row 1 [] ∷ [])
+unfolding row place
+not-far-right k = false≢true (sym (ap isNothing (k .0 refl refl 0 (omega arith) refl)))
+
+-- ---- the lines
+pub not-blank-feet : Fails blankFeet (Strokes blankFeet) plain (Row 1 (Parent 2 ∷ []) ∷ Row 2 (Parent 3 ∷ []) ∷ [])
+unfolding row place
+not-blank-feet k = k .1 .0 refl 0 .1 (3, refl, refl)
+
+pub not-reserved-drawn : Fails reservedDrawn (Strokes reservedDrawn) plain (Reserve 5 ∷ Row 1 (Parent 2 ∷ []) ∷ [])
 unfolding row place reserve
-not-draws-reserved k =
-    let s = k .1 .0 .drawn refl .strokes 0 .0 tt in
+not-reserved-drawn k =
+    let s = k .1 .0 refl 0 .0 tt in
     let e : _≡_ {A = ℕ} 5 (s .0) = Option·some-injective 5 (s .0) (s .1) in
     let w : AsReserved ≡ AsNamed =
     subst (λ (x : ℕ). account (Row 1 (Parent 2 ∷ [])) false (account (Reserve 5) false nobody) x ≡ AsNamed) (sym e) (s .2) in
     let z : _≡_ {A = ℕ} 0 1 = cc in
     omega arith
+
+pub not-garbling : Fails garbling (Kinds garbling) (plain, []) (Row 1 [] ∷ [])
+unfolding row place choiceOf
+not-garbling k = k .0 refl 0 refl
+
+pub not-blank-heads : Fails blankHeads (Meets blankHeads) plain (Row 1 (Parent 2 ∷ []) ∷ Row 2 [] ∷ [])
+unfolding row place choiceOf
+not-blank-heads k =
+    let e = k .1 .0 refl 0 in
+    let z : _≡_ {A = ℕ} 0 1 = cc in
+    omega arith
+
+pub not-dashed-over-node : Fails dashedOverNode (Meets dashedOverNode) plain (Row 1 (Ancestor 2 ∷ []) ∷ Row 2 [] ∷ [])
+unfolding row place choiceOf
+not-dashed-over-node k =
+    let e = k .1 .0 refl 0 in
+    let z : _≡_ {A = ℕ} 0 1 = cc in
+    omega arith
+
+-- ---- document 01's own, and a text call that counts for nothing
+pub not-untouched : Fails untouched (Held untouched) plain (Row 1 (Parent 2 ∷ []) ∷ [])
+unfolding row place
+not-untouched k = Option·none-ne-some 2 (k .0 2 named≢idle .1)
+
+pub not-blank-later : Fails blankLater (Strokes blankLater) plain (Row 1 (Parent 2 ∷ []) ∷ Row 2 (Parent 3 ∷ []) ∷ [])
+unfolding row place
+not-blank-later k = k .1 .0 refl 0 .1 (3, refl, refl)
+
+-- a text call of a row with one parent
+abbrev textRow : Item
+textRow = Text (record { state = newText; renderer = Curved; mark = 0x6f; message = []; output = replicate 16 0 }) 1 (Parent 2 ∷ [])
+
+pub not-text-ignored : Fails textIgnored (Held textIgnored) plain (textRow ∷ [])
+unfolding row place textWith choiceOf glyphsOf bytesOf
+not-text-ignored k = Option·none-ne-some 2 (k .0 2 named≢idle .1)

@@ -37,9 +37,9 @@ use Rattle.marked.proofs.Holding.{Where, away, there, findIs, at-vacant, at-sta
 use Rattle.placing.proofs.PlacingLaws.{walk-more}
 use Rattle.cells.proofs.CellLaws.{length-cells}
 use Rattle.history.specs.Account.{Row, AsNamed, Waiting, waitsAfter}
-use Rattle.history.specs.Demand3.{Stroke, Blank, Holds, waitOf, Wait-in, Tidy, OneEntry, cell, isStroke, solid, overNode}
+use Rattle.history.specs.Demand3.{Stroke, Blank, Other, Holds, waitOf, OneEntry, cell, isStroke, solid, overNode}
 use Rattle.history.proofs.Lines.{padStroke}
-use Rattle.history.proofs.Waits.{rearranged, spot-alone, walk-keeps, bare-keeps, ending}
+use Rattle.history.proofs.Waits.{Wait-in, rearranged, spot-alone, walk-keeps, bare-keeps, ending}
 
 -- ---- the swap
 swapped-keeps : (f : Found) (c : ℕ) (cs : List Column) (w : Waiting) → Wait-in cs w → Wait-in (swapped f c cs) w
@@ -116,6 +116,11 @@ full-keep c (d ∷ ds) h = behind
 full-trim : (cs : List Column) → Full (trim cs)
 full-trim [] = λ n e. absurd (omega arith)
 full-trim (c ∷ cs) = full-keep c (trim cs) (full-trim cs)
+
+-- the clauses about the columns after a call
+pub record Tidy (cs : List Column) : Type 0 where
+  pub unblocked : (i : ℕ) → at cs i ≢ Blocked
+  pub full : (n : ℕ) → suc n ≡ length cs → at cs n ≢ Empty
 
 pub row-end-tidy : (d : DashStyle) (cs : List Column) → Tidy (rowEnd d cs)
 row-end-tidy d cs =
@@ -200,6 +205,17 @@ strokes-of f cs w S W i = (
   λ h. let p = pad-named (at cs i) (subst isStroke (S i) h) in (p .0, p .1, W .waits i (p .0) (p .1) ∙ p .2),
   λ p. subst isStroke (sym (S i)) (named-pad (at cs i) (sym (W .waits i (p .0) (p .1)) ∙ p .2)),
 )
+
+-- no cell of a line that shows columns has another glyph
+pad-kinds : (c : Column) → pad c ≢ Other
+pad-kinds Empty e = let z : _≡_ {A = ℕ} 0 1 = cc in omega arith
+pad-kinds Blocked e = let z : _≡_ {A = ℕ} 0 1 = cc in omega arith
+pad-kinds (Reserved m) e = let z : _≡_ {A = ℕ} 0 1 = cc in omega arith
+pad-kinds (Ancestor m) e = let z : _≡_ {A = ℕ} 0 1 = cc in omega arith
+pad-kinds (Parent m) e = let z : _≡_ {A = ℕ} 0 1 = cc in omega arith
+
+pub never-other : (f : List Stroke) (cs : List Column) → Shows f cs → (i : ℕ) → cell f i ≢ Other
+never-other f cs S i e = pad-kinds (at cs i) (sym (S i) ∙ e)
 
 -- ---- a whole row, placed: its lines and its columns
 gave-in : (c : ℕ) (es : List Entry) (cs : List Column) (q : ℕ) → gaveUp c es cs ≡ At q → q < length (walk c es cs)

@@ -21,7 +21,13 @@ use Rattle.shaper.specs.Shaper.{reserved, reservedIn}
 use Rattle.placing.specs.Placing.{columnOf, parentColumn, enter, walk}
 use Rattle.marked.proofs.Holding.{Where, away, there, findIs, at-vacant, Spot, taken, free, spotIs, spot-only, empty-holds, merge-empty, spot-id}
 use Rattle.history.specs.Account.{Reserve, Wait, Idle, AsReserved, AsNamed, Waiting, names, named, unlessWaiting, waitsAfter}
-use Rattle.history.specs.Demand3.{Holds, waitOf, Wait-in}
+use Rattle.history.specs.Demand3.{Holds, waitOf}
+
+-- the clauses about the ids that wait, of columns and an account
+pub record Wait-in (cs : List Column) (w : Waiting) : Type 0 where
+  pub held : (x : ℕ) → w x ≢ Idle → (i : ℕ) × Holds cs i x
+  pub waits : (i x : ℕ) → Holds cs i x → w x ≡ waitOf (at cs i)
+  pub one : (i j x : ℕ) → Holds cs i x → Holds cs j x → i ≡ j
 
 pub decId : (o : Option ℕ) (x : ℕ) → Dec (o ≡ some x)
 decId none x = no (Option·none-ne-some x)
@@ -91,13 +97,21 @@ pub waits-ext : (cs : List Column) (w w′ : Waiting) → ((x : ℕ) → w′ x 
 waits-ext cs w w′ h W =
     record { held = λ x n. W .held x (λ z. n (h x ∙ z)); waits = λ i x q. h x ∙ W .waits i x q; one = W .one }
 
--- an id that no column holds does not wait
-named≢idle : AsNamed ≢ Idle
+pub named≢idle : AsNamed ≢ Idle
 named≢idle e = let z : _≡_ {A = ℕ} 0 1 = cc in omega arith
 
-reserved≢idle : AsReserved ≢ Idle
+pub reserved≢idle : AsReserved ≢ Idle
 reserved≢idle e = let z : _≡_ {A = ℕ} 0 1 = cc in omega arith
 
+-- an id that a column holds waits
+pub busy : (c : Column) (n : ℕ) → idOf c ≡ some n → waitOf c ≢ Idle
+busy Empty n q = absurd (Option·none-ne-some n q)
+busy Blocked n q = absurd (Option·none-ne-some n q)
+busy (Reserved m) n q = reserved≢idle
+busy (Ancestor m) n q = named≢idle
+busy (Parent m) n q = named≢idle
+
+-- one that no column holds does not
 pub idle : (cs : List Column) (w : Waiting) → Wait-in cs w → (x : ℕ) → ((i : ℕ) → Holds cs i x → ⊥) → w x ≡ Idle
 idle cs w W x h = go (w x) refl
   where
@@ -201,17 +215,10 @@ reserve-keeps n cs w W = go (find n cs) (findIs n cs)
     waiting AsReserved h = refl
     waiting AsNamed h = refl
 
-    busy : (c : Column) → idOf c ≡ some n → waitOf c ≢ Idle
-    busy Empty q = absurd (Option·none-ne-some n q)
-    busy Blocked q = absurd (Option·none-ne-some n q)
-    busy (Reserved m) q = reserved≢idle
-    busy (Ancestor m) q = named≢idle
-    busy (Parent m) q = named≢idle
-
     as-before : (i : ℕ) → Holds cs i n → (x : ℕ) (t : Bool) → eqb x n ≡ t → cond t (unlessWaiting (w x)) (w x) ≡ w x
     as-before i q x false e = refl
     as-before i q x true e =
-        waiting (w x) (λ z. busy (at cs i) q (sym (W .waits i n q) ∙ (ap w (sym (eqb-true x n e)) ∙ z)))
+        waiting (w x) (λ z. busy (at cs i) n q (sym (W .waits i n q) ∙ (ap w (sym (eqb-true x n e)) ∙ z)))
 
     go : (o : Found) → Where n cs o → Wait-in (reservedIn o n cs) (waitsAfter (Reserve n) w)
     go o (there i q) = waits-ext cs w (waitsAfter (Reserve n) w) (λ x. as-before i q x (eqb x n) refl) W

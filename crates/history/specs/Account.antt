@@ -1,6 +1,6 @@
 -- Document 01's account of the ids that wait ("Which ids wait"). It is fed the calls' arguments and whether each was refused, and nothing out of the columns.
 use Prim.Native.Nat.{ℕ}
-use mathlib.Core.Bool.{Bool, true, false, cond, _||_}
+use mathlib.Core.Bool.{Bool, true, false, cond, not, _||_}
 use mathlib.Core.List.{List, [], _∷_}
 use lib.Dec.{eqb}
 use Rattle.render.specs.declared.render.Ancestor.{Ancestor as Entry}
@@ -10,6 +10,16 @@ use Rattle.render.specs.declared.render.Ancestor.the-variants.{Ancestor as Indi
 pub data Call : Type 0 where
   Reserve : ℕ → Call
   Row : ℕ → List Entry → Call
+
+-- the id that a call reserves, or draws as its node
+abbrev pub callId : Call → ℕ
+callId (Reserve n) = n
+callId (Row n es) = n
+
+-- whether a call, refused or not, is an accepted row
+abbrev pub isDrawn : Call → Bool → Bool
+isDrawn (Reserve n) refused = false
+isDrawn (Row n es) refused = not refused
 
 -- how an id waits ("waits" in document 01)
 pub data Wait : Type 0 where

@@ -1,6 +1,5 @@
 -- Demand 3 of the lent calls: a list of calls that have run on one shaper, each as its contract says, and the machine of what they leave.
 use Prim.Native.Nat.{ℕ}
-use mathlib.Core.Bool.{Bool}
 use mathlib.Core.List.{List, [], _∷_}
 use Rattle.render.specs.declared.render.Entry.{Entry}
 use Rattle.render.specs.declared.types.RowShape.{RowShape}
@@ -86,13 +85,3 @@ lent q =
       head = λ s k. headLine q (lentShape s k);
       foot = λ s k. footLine q (lentShape s k);
     }
-
--- the state in which a list of calls leaves a machine
-abbrev pub leaves : (M : Machine) → M .State → List (M .Item) → M .State
-leaves M s [] = s
-leaves M s (k ∷ ks) = leaves M (M .after s k) ks
-
--- which of the calls a machine refuses
-abbrev pub verdicts : (M : Machine) → M .State → List (M .Item) → List Bool
-verdicts M s [] = []
-verdicts M s (k ∷ ks) = M .refuses s k ∷ verdicts M (M .after s k) ks

@@ -70,6 +70,10 @@ abbrev pub shapeOf : View → Call → RowShape
 shapeOf v (Reserve n) = noShape
 shapeOf v (Row n es) = row v n es .shape
 
+-- the shape of any call of the list: a text call's is that of the row call as which it counts
+abbrev pub itemShape : View → Item → RowShape
+itemShape v k = shapeOf v (callOf k)
+
 -- "A stroke in one is a cell for which the upright, solid or dashed, was chosen; a blank cell was given the space."
 abbrev pub strokeOf : Choice → Stroke
 strokeOf choice.Space = Blank
@@ -94,17 +98,21 @@ headLine q g = map strokeOf (lineOfKind (letter PreNode) (lines q g))
 abbrev pub footLine : Renderer → RowShape → List Stroke
 footLine q g = map strokeOf (lineOfKind (letter PostAncestry) (lines q g))
 
--- our machine, drawn by one of the five renderers
-abbrev pub ours : Renderer → Machine
-ours q =
+-- a machine of such lists, with this view after each call, drawn by one of the five renderers
+abbrev pub leaving : (View → Item → View) → Renderer → Machine
+leaving left q =
     record {
       State = View;
       columns = λ v. v .columns;
       Item = Item;
       call = callOf;
       refuses = refuses;
-      after = after;
-      node = λ v k. shapeOf v (callOf k) .«node_column»;
-      head = λ v k. headLine q (shapeOf v (callOf k));
-      foot = λ v k. footLine q (shapeOf v (callOf k));
+      after = left;
+      node = λ v k. itemShape v k .«node_column»;
+      head = λ v k. headLine q (itemShape v k);
+      foot = λ v k. footLine q (itemShape v k);
     }
+
+-- our machine
+abbrev pub ours : Renderer → Machine
+ours = leaving after

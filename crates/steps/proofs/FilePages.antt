@@ -105,7 +105,7 @@ module _ (p : ProgressView) (r : RecordView) (out : List ℕ) (few : QueueShort 
       queued-short finish trim-length (glyphsOf Curved) (glyph-short Curved) Curved (rowed .shape) (r .mark) (row-fits (p .view) (r .id) (r .entries) e) (linesOf (r .message)) (p .view .height)
 
 -- ---- what is read, piece by piece
-over-long : (bs out : List ℕ) → length out ≤ length (over bs out)
+pub over-long : (bs out : List ℕ) → length out ≤ length (over bs out)
 over-long bs out = rw (length-append bs (drop (length bs) out), length-drop (length bs) out) (omega arith)
 
 -- from what a program keeps on

@@ -107,11 +107,11 @@ drawnChecks mark message r =
     ∷ (r .refusal when not (eqb (r .refusal) notRefused))
     ∷ []
 
--- and with the last: "output shorter than its lines"
+-- and with the last: "output shorter than the lines need"
 abbrev pub textChecks : ℕ → List ℕ → RowReply → List ℕ → List ℕ → List Check
 textChecks mark message r bytes out = drawnChecks mark message r ++ ((outputShorterThanLines when ltb (length out) (length bytes)) ∷ [])
 
--- what the text call gives: "The text call gives it [the line measure] withMessages its length" (01, "Added by us")
+-- what the text call gives: "The text call gives it [the line measure] beside its length" (01, "Added by us")
 pub record TextReply : Type 0 where
   pub refusal : ℕ
   pub length : ℕ

@@ -1,0 +1,148 @@
+-- The promises of the lent calls are false of wrong answers: answers shown right in LentCase or LentTextCase, with one thing changed; where a refusal is what is wrong,
+-- its number and the shaper that it leaves. Quoted words are 01's.
+use Prim.Native.Nat.{ℕ}
+use mathlib.Core.Path.{_≡_, ap}
+use mathlib.Core.List.{List, []}
+use mathlib.Core.Option.{Option, some, Option·some-injective}
+use native.Mathlib.Omega.{arith}
+use lib.ListN.{length, getD, set}
+use Rattle.column.specs.declared.Found.the-variants.{At}
+use Rattle.column.specs.Columns.{rank, idOf, emptySlot}
+use Rattle.render.specs.Refusals.{noColumnLeft}
+use Rattle.shaper.specs.declared.Shaper.{Shaper}
+use Rattle.shaper.specs.Shaper.{Reply, reserve, fresh, reservedSlot}
+use Rattle.placing.specs.Placing.{place}
+use Rattle.row_shape.specs.Row.{RowReply, row}
+use Rattle.width.specs.declared.NewNode.the-variants.{Node, Absent}
+use Rattle.width.specs.declared.WidthAnswer.{WidthAnswer}
+use Rattle.width.specs.Width.{width}
+use Rattle.glyphs.specs.Cells.{choiceOf, bytesOf}
+use Rattle.output.specs.declared.TextState.{TextState}
+use Rattle.text.specs.Text.{TextReply, textWith}
+use Rattle.lineage.specs.declared.LengthAnswer.{LengthAnswer}
+use Rattle.lineage.specs.Promises.{LentReserves, LentRows, LentWidth}
+use Rattle.history.specs.LentCalls.{TextRun, TextRan, Met}
+use Rattle.history.proofs.LentCase.{options, holding, reserved, m7-answer, full, last-empty}
+use Rattle.history.proofs.LentTextCase.{row-entries, row-answer, after-text, at-end, too-many, too-many-answer, too-short, flushing}
+
+-- a shaper whose slot i has been made to hold the id n as reserved, and nothing else been changed
+abbrev stored : Shaper → ℕ → ℕ → Shaper
+stored s i n =
+    record {
+      slots = set (s .slots) i (reservedSlot n);
+      count = s .count;
+      «previous_node_column» = s .«previous_node_column»;
+      options = s .options;
+    }
+
+-- ---- rows
+
+-- an accepted row, its shape true, that leaves the shaper as it was (right: LentCase.rows)
+pub not-row-unstored : LentRows reserved 9 [] reserved m7-answer → ⊥
+unfolding row place
+not-row-unstored k = let z : _≡_ {A = ℕ} 1 0 = ap (λ (a : RowReply). length (a .view .columns)) (k .reply) in omega arith
+
+-- "a row that leaves the columns untouched": the previous node column is right (right: LentTextCase.row-accepted)
+pub not-row-columns-untouched : LentRows (fresh options) 1 row-entries (holding [] (At 0)) row-answer → ⊥
+unfolding row place
+not-row-columns-untouched k = let z : _≡_ {A = ℕ} 0 2 = ap (λ (a : RowReply). length (a .view .columns)) (k .reply) in omega arith
+
+-- the rank of the column in slot i
+abbrev rankAt : ℕ → Shaper → ℕ
+rankAt i s = rank ((getD (s .slots) i emptySlot) .column)
+
+-- "A refusal gives its number .. and changes no state": a row with 33 entries that gives 3 and stores (right: LentTextCase.row-refused)
+pub not-refused-row-stored : LentRows after-text 3 too-many (stored after-text 0 4) too-many-answer → ⊥
+not-refused-row-stored k = let z : _≡_ {A = ℕ} 2 0 = ap (rankAt 0) (k .refused (λ e. omega (arith, e))) in omega arith
+
+-- the same behind the columns, where no definition reads it
+pub not-refused-row-stored-behind : LentRows after-text 3 too-many (stored after-text 2 4) too-many-answer → ⊥
+not-refused-row-stored-behind k = let z : _≡_ {A = ℕ} 2 0 = ap (rankAt 2) (k .refused (λ e. omega (arith, e))) in omega arith
+
+-- ---- reservations
+
+-- an accepted reservation that stores nothing: "else it becomes Reserved in the first Empty column or a new last one" (right: LentCase.reserves)
+pub not-reservation-unstored : LentReserves (fresh options) 9 (fresh options) 0 → ⊥
+unfolding reserve
+not-reservation-unstored k = let z : _≡_ {A = ℕ} 0 1 = ap (λ (a : Reply). length (a .view .columns)) (k .reply) in omega arith
+
+-- "no column left" with columns free: there are no columns yet (right: LentCase.reserves)
+pub not-refused-with-columns-free : LentReserves (fresh options) 9 (fresh options) noColumnLeft → ⊥
+unfolding reserve
+not-refused-with-columns-free k = let z : _≡_ {A = ℕ} 2 0 = ap (λ (a : Reply). a .refusal) (k .reply) in omega arith
+
+-- the same where one of 64 columns is Empty (right: LentCase.last-empty-reserves)
+pub not-refused-with-an-empty-column : LentReserves last-empty 64 last-empty noColumnLeft → ⊥
+unfolding reserve
+not-refused-with-an-empty-column k = let z : _≡_ {A = ℕ} 2 0 = ap (λ (a : Reply). a .refusal) (k .reply) in omega arith
+
+-- the id in slot i
+abbrev idAt : ℕ → Shaper → Option ℕ
+idAt i s = idOf ((getD (s .slots) i emptySlot) .column)
+
+-- "A refusal gives its number .. and changes no state": a reservation with 64 columns taken that gives 2 and stores (right: LentCase.full-refuses)
+pub not-refused-reservation-stored : LentReserves full 64 (stored full 63 64) noColumnLeft → ⊥
+not-refused-reservation-stored k =
+    let e : _≡_ {A = Option ℕ} (some 64) (some 63) = ap (idAt 63) (k .refused (λ e. omega (arith, e))) in
+    let z : _≡_ {A = ℕ} 64 63 = Option·some-injective 64 63 e in
+    omega arith
+
+-- ---- widths
+
+-- a width without a node as if one were there (right: LentCase.width-without-node; with the node LentCase.width-with-node)
+pub not-absent-node-counted : LentWidth (fresh options) Absent [] (record { refusal = 0; width = 1 }) → ⊥
+unfolding width
+not-absent-node-counted k = let z : _≡_ {A = ℕ} 1 0 = ap (λ (a : WidthAnswer). a .width) k in omega arith
+
+-- "a width that is invented": one more than the columns (right: LentCase.width-with-held-node)
+pub not-width-invented : LentWidth reserved (Node 9) [] (record { refusal = 0; width = 2 }) → ⊥
+unfolding width
+not-width-invented k = let z : _≡_ {A = ℕ} 2 1 = ap (λ (a : WidthAnswer). a .width) k in omega arith
+
+-- ---- texts
+
+-- the same text call with another state and output at exit, and another answer
+abbrev giving : TextRun → TextState → List ℕ → LengthAnswer → TextRun
+giving a t′ out′ r =
+    record {
+      state = a .state;
+      renderer = a .renderer;
+      node = a .node;
+      entries = a .entries;
+      mark = a .mark;
+      message = a .message;
+      output = a .output;
+      state′ = t′;
+      output′ = out′;
+      answer = r;
+    }
+
+-- "Success writes a prefix of the output and nothing behind it": the byte behind the end is another (right: LentTextCase.text-flushes)
+pub not-written-behind : Met after-text (TextRan (giving flushing (flushing .state′) (set (flushing .output′) 11 0) (flushing .answer)) at-end) → ⊥
+unfolding row place textWith choiceOf bytesOf
+not-written-behind k = let z : _≡_ {A = ℕ} 0 0xab = ap (λ (a : TextReply). getD (a .output) 11 0) (k .reply) in omega arith
+
+-- the text state at exit with the queued line of the one at entry
+abbrev queue-left : TextState
+queue-left =
+    record {
+      «queued_pad_line» = flushing .state .«queued_pad_line»;
+      «queued_length» = flushing .state .«queued_length»;
+      «is_queued» = flushing .state .«is_queued»;
+      «row_height» = flushing .state′ .«row_height»;
+    }
+
+-- a text call that leaves the queued line (`flush_queued_pad_line` takes it; right: LentTextCase.text-flushes)
+pub not-queue-left : Met after-text (TextRan (giving flushing queue-left (flushing .output′) (flushing .answer)) at-end) → ⊥
+unfolding row place textWith choiceOf bytesOf
+not-queue-left k = let z : _≡_ {A = ℕ} 1 0 = ap (λ (a : TextReply). length (a .text .queued)) (k .reply) in omega arith
+
+-- "A refusal .. changes no state and no output": one byte of the output is another (right: LentTextCase.text-refused)
+pub not-refused-text-written : Met after-text (TextRan (giving too-short (too-short .state′) (set (too-short .output′) 0 0x20) (too-short .answer)) after-text) → ⊥
+not-refused-text-written k = let z : _≡_ {A = ℕ} 0x20 0xa0 = ap (λ (out : List ℕ). getD out 0 0) (k .refused (λ e. omega (arith, e)) .2) in omega arith
+
+-- "a measure that is [invented]": one more than the longest line's bytes (right: LentTextCase.text-flushes)
+pub not-measure-invented :
+    Met after-text (TextRan (giving flushing (flushing .state′) (flushing .output′) (record { refusal = 0; length = flushing .answer .length; measure = 7 })) at-end) → ⊥
+unfolding row place textWith choiceOf bytesOf
+not-measure-invented k = let z : _≡_ {A = ℕ} 7 6 = ap (λ (a : TextReply). a .measure) (k .reply) in omega arith
