@@ -38,7 +38,7 @@ use Rattle.history.specs.Demand3.{Stroke, Blank, Dashed, Solid, Other}
 use Rattle.history.specs.Ours.{headLine, footLine}
 use Rattle.history.specs.Bytes.{strokeBytes, strokesFrom, strokesBytes, NoOther, headText, footText, writtenLines, beginsWith, LinesWritten}
 use Rattle.history.proofs.Accepted.{renderer-accepts}
-use Rattle.history.proofs.Lines.{padStroke, head-pads, foot-pads, head-shows, foot-shows}
+use Rattle.history.proofs.Lines.{padStroke, pad-known, head-pads, foot-pads, head-shows, foot-shows}
 
 -- ---- a line of pad cells as bytes
 
@@ -230,11 +230,6 @@ module _ (q : Renderer) (d : DashStyle) where
   lines-told xs ys h k e = from-told 0 xs ys h k e
 
 -- the cells of a head line or a foot line are "solid, dashed or blank" (01)
-pad-known : (x : PadLine) → padStroke x ≢ Other
-pad-known pad.Blank e = let z : _≡_ {A = ℕ} 0 1 = cc in omega arith
-pad-known pad.Ancestor e = let z : _≡_ {A = ℕ} 0 1 = cc in omega arith
-pad-known pad.Parent e = let z : _≡_ {A = ℕ} 0 1 = cc in omega arith
-
 pads-known : (ps : List PadLine) → NoOther (map padStroke ps)
 pads-known [] = tt
 pads-known (x ∷ ps) = (pad-known x, pads-known ps)

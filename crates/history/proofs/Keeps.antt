@@ -26,7 +26,7 @@ use Rattle.history.specs.Account.{Call, Reserve, Row, AsNamed, Waiting, 
 use Rattle.history.specs.Demand3.{Stroke, Other, Holds, OneEntry, cell, isStroke, overNode, Pulls, Above, nothingAbove, waitingAfter, aboveAfter, Kept, Each, KeepsEveryLine}
 use Rattle.history.specs.Ours.{TextArguments, Item, Plain, Text, callOf, textOn, isRefusal, refuses, after, shapeOf, headLine, footLine, ours}
 use Rattle.glyphs.specs.declared.Renderer.{Renderer}
-use Rattle.history.proofs.AsRow.{row-accepted, accepted-view, refused-view}
+use Rattle.history.proofs.AsRow.{row-accepted, accepted-view, refused-view, row-refused}
 use Rattle.history.proofs.Lines.{head-shows as head-line, foot-shows as foot-line}
 use Rattle.history.proofs.Waits.{Wait-in, reserve-keeps, decId}
 use Rattle.history.proofs.Node.{NodePlaced, node-placed}
@@ -257,7 +257,7 @@ module _ (q : Renderer) where
 
         row-step : (r : ℕ) → row v n es .refusal ≡ r → Step v w a (Plain (Row n es))
         row-step zero h = accepted-step (Plain (Row n es)) refl (ap isRefusal h) refl h
-        row-step (suc r) h = refused-step (Plain (Row n es)) (ap isRefusal h) (ap (λ (r : RowReply). r .view) (row-reply v n es (suc r) h))
+        row-step (suc r) h = refused-step (Plain (Row n es)) (ap isRefusal h) (row-refused v n es r h)
 
         -- ---- a text call
         text-step : (t : TextArguments) (r : ℕ) → textOn v t n es .refusal ≡ r → Step v w a (Text t n es)

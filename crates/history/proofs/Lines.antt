@@ -20,13 +20,19 @@ use Rattle.glyphs.specs.Cells.{isPresent, keep, choiceOf, lineOf, lines}
 use Rattle.glyphs.specs.Choices.{padChoice}
 use Rattle.glyphs.specs.Row.{rowOf, places}
 use Rattle.prefix_lines.specs.PrefixLines.{letter}
-use Rattle.history.specs.Demand3.{Stroke, Blank, Dashed, Solid}
+use Rattle.history.specs.Demand3.{Stroke, Blank, Dashed, Solid, Other}
 use Rattle.history.specs.Ours.{strokeOf, lineOfKind, headLine, footLine}
 
 abbrev pub padStroke : PadLine → Stroke
 padStroke pad.Blank = Blank
 padStroke pad.Ancestor = Dashed
 padStroke pad.Parent = Solid
+
+-- no pad cell is another glyph
+pub pad-known : (x : PadLine) → padStroke x ≢ Other
+pad-known pad.Blank e = let z : _≡_ {A = ℕ} 0 1 = cc in omega arith
+pad-known pad.Ancestor e = let z : _≡_ {A = ℕ} 0 1 = cc in omega arith
+pad-known pad.Parent e = let z : _≡_ {A = ℕ} 0 1 = cc in omega arith
 
 -- a line of another kind is passed over
 skip : (q : Renderer) (g : RowShape) (k : ℕ) (l : Line) (ls : List Line) → letter l ≢ k

@@ -19,7 +19,7 @@ use Rattle.marked.specs.Marked.{plain}
 use Rattle.history.specs.Account.{Call, Reserve, Row, AsReserved, AsNamed, nobody, account}
 use Rattle.history.specs.Demand3.{Held, Waits, One, Unblocked, Full, Changes, To, OwnColumn, EmptyColumn, FirstColumn, Strokes, Kinds, Meets, KeepsEveryLine}
 use Rattle.history.specs.Ours.{Item, Text, ours}
-use Rattle.history.specs.Wrong.{Fails, stale, forgetting, keeping, doubling, blocking, untrimmed, turning, pulling, unswapping, farFromOwn, onAnother, farRight, blankFeet, reservedDrawn, garbling, blankHeads, dashedOverNode, untouched, blankLater, textIgnored}
+use Rattle.history.specs.Wrong.{Fails, stale, forgetting, keeping, doubling, blocking, untrimmed, reversing, pulling, unswapping, farFromOwn, onAnother, farRight, blankFeet, reservedDrawn, garbling, blankHeads, dashedOverNode, untouched, blankLater, textIgnored}
 use Rattle.history.proofs.Waits.{named≢idle, reserved≢idle}
 
 -- a row of two parents, of which the second waits to the right, and then the first's own row, with the second as its one parent entry
@@ -53,9 +53,9 @@ unfolding row place
 not-untrimmed k = k .0 0 refl refl
 
 -- ---- the ids that move
-pub not-turning : Fails turning (Changes turning) plain (Row 1 (Parent 2 ∷ Parent 3 ∷ []) ∷ Reserve 9 ∷ [])
+pub not-reversing : Fails reversing (Changes reversing) plain (Row 1 (Parent 2 ∷ Parent 3 ∷ []) ∷ Reserve 9 ∷ [])
 unfolding row place reserve
-not-turning k = k .1 .0 2 0 2 named≢idle named≢idle refl refl (λ d. absurd (false≢true d)) .0 (λ z. omega (arith, z))
+not-reversing k = k .1 .0 2 0 2 named≢idle named≢idle refl refl (λ d. absurd (false≢true d)) .0 (λ z. omega (arith, z))
 
 pub not-pulling : Fails pulling (To pulling) plain pulledRow
 unfolding row place

@@ -38,7 +38,7 @@ use Rattle.placing.proofs.PlacingLaws.{walk-more}
 use Rattle.cells.proofs.CellLaws.{length-cells}
 use Rattle.history.specs.Account.{Row, AsNamed, Waiting, waitsAfter}
 use Rattle.history.specs.Demand3.{Stroke, Blank, Other, Holds, waitOf, OneEntry, cell, isStroke, solid, overNode}
-use Rattle.history.proofs.Lines.{padStroke}
+use Rattle.history.proofs.Lines.{padStroke, pad-known}
 use Rattle.history.proofs.Waits.{Wait-in, rearranged, spot-alone, walk-keeps, bare-keeps, ending}
 
 -- ---- the swap
@@ -207,15 +207,8 @@ strokes-of f cs w S W i = (
 )
 
 -- no cell of a line that shows columns has another glyph
-pad-kinds : (c : Column) → pad c ≢ Other
-pad-kinds Empty e = let z : _≡_ {A = ℕ} 0 1 = cc in omega arith
-pad-kinds Blocked e = let z : _≡_ {A = ℕ} 0 1 = cc in omega arith
-pad-kinds (Reserved m) e = let z : _≡_ {A = ℕ} 0 1 = cc in omega arith
-pad-kinds (Ancestor m) e = let z : _≡_ {A = ℕ} 0 1 = cc in omega arith
-pad-kinds (Parent m) e = let z : _≡_ {A = ℕ} 0 1 = cc in omega arith
-
 pub never-other : (f : List Stroke) (cs : List Column) → Shows f cs → (i : ℕ) → cell f i ≢ Other
-never-other f cs S i e = pad-kinds (at cs i) (sym (S i) ∙ e)
+never-other f cs S i e = pad-known (padOf (at cs i)) (sym (S i) ∙ e)
 
 -- ---- a whole row, placed: its lines and its columns
 gave-in : (c : ℕ) (es : List Entry) (cs : List Column) (q : ℕ) → gaveUp c es cs ≡ At q → q < length (walk c es cs)

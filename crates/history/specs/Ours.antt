@@ -98,7 +98,7 @@ headLine q g = map strokeOf (lineOfKind (letter PreNode) (lines q g))
 abbrev pub footLine : Renderer → RowShape → List Stroke
 footLine q g = map strokeOf (lineOfKind (letter PostAncestry) (lines q g))
 
--- a machine of such lists, with this view after each call, drawn by one of the five renderers
+-- a machine with lists of these calls and this view after each, drawn by one of the five renderers
 abbrev pub leaving : (View → Item → View) → Renderer → Machine
 leaving left q =
     record {

@@ -133,9 +133,9 @@ untrimmed = withColumnsAfter (afterRows (λ v n es. map unblock (solidAfter v (p
 
 -- ---- the ids that move
 
--- `changes`: a reservation turns the columns round
-abbrev pub turning : Machine
-turning = withColumnsAfter (afterReservations (λ v n. trim (reverse (trueColumns v (Reserve n)))))
+-- `changes`: a reservation puts the columns into reverse order
+abbrev pub reversing : Machine
+reversing = withColumnsAfter (afterReservations (λ v n. trim (reverse (trueColumns v (Reserve n)))))
 
 -- the columns of a row before its end, the id that swapped in a new last one
 abbrev pub pulledBehind : Placed → Found → List Column

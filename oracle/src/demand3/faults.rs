@@ -32,7 +32,7 @@ pub enum Fault {
     /// Blocked columns become Empty after a row; Empty columns at the end stay.
     Untrimmed,
     /// An accepted reservation of an id that no column holds puts the columns into reverse order; Empty columns at the end go.
-    Turning,
+    Reversing,
     /// The id of a single entry that is swapped goes to a new last column, if there is one left, and the node's column becomes Empty.
     Pulling,
     /// A node that a column holds is reported far right; its row does not swap, and its head line is the line above.
@@ -73,7 +73,7 @@ const NAMES: [(&str, Fault); 22] = [
     ("doubling", Fault::Doubling),
     ("blocking", Fault::Blocking),
     ("untrimmed", Fault::Untrimmed),
-    ("turning", Fault::Turning),
+    ("reversing", Fault::Reversing),
     ("pulling", Fault::Pulling),
     ("far_from_own", Fault::FarFromOwn),
     ("on_another", Fault::OnAnother),
@@ -140,7 +140,7 @@ impl Fault {
                 columns.push(Column::Reserved(id));
                 columns
             }
-            Fault::Turning => {
+            Fault::Reversing => {
                 columns.reverse();
                 trimmed(columns)
             }
