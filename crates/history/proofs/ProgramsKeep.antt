@@ -22,15 +22,15 @@ use Rattle.prefix_lines.specs.Listing.{listingBytes}
 use Rattle.record.specs.declared.Outcome.{Outcome}
 use Rattle.record.specs.declared.Outcome.the-variants.{Ready, Ended, Refused}
 use Rattle.record.specs.Record.{RecordView, nextRecord}
-use Rattle.steps.specs.Steps.{programOptions, ProgressView, stepped, pageRow, listingChecks, listingRow, onRecord}
-use Rattle.steps.specs.Files.{readsOf, stepByStep, pageOf, listingOf, listingRoom}
+use Rattle.steps.specs.Steps.{programOptions, ProgressView, stepped, pageRow, pageStep, listingChecks, listingRow, listingStep, onRecord}
+use Rattle.steps.specs.Files.{Running, stepOn, afterStep, writtenBy, readsOf, stepByStep, pageOf, listingOf, listingRoom}
 use Rattle.steps.proofs.FilePages.{over-long}
 use Rattle.steps.proofs.Room.{listing-has-room}
 use Rattle.history.specs.Account.{Call, Row, Waiting, nobody}
 use Rattle.history.specs.Demand3.{Above, nothingAbove, Each, KeepsEveryLine}
 use Rattle.history.specs.Follows.{leaves, verdicts}
 use Rattle.history.specs.Ours.{TextArguments, Item, callOf, textOn, isRefusal, refuses, after, shapeOf, headLine, footLine, ours}
-use Rattle.history.specs.Programs.{Running, Program, pageProgram, listingProgram, isReady, rowRead, started, stepOn, afterStep, stepsTaken, writtenBy, comesToCall, rowsOf, itemsFrom, stepShape, program, AreCalls}
+use Rattle.history.specs.Programs.{Program, pageProgram, listingProgram, isReady, rowRead, started, stepsTaken, comesToCall, rowsOf, itemsFrom, stepShape, program, AreCalls}
 use Rattle.history.specs.Bytes.{LinesInBytes}
 use Rattle.history.proofs.Alike.{Alike, AllAlike, alike-keeps}
 use Rattle.history.proofs.AsRow.{refused-view, row-refused}
@@ -39,8 +39,8 @@ use Rattle.history.proofs.ListBytes.{alike-bytes}
 
 -- ---- a step that comes to its call is that call
 record IsCall (P : Program) (s : Running) (piece : List ℕ) : Type 0 where
-  view : stepOn P s piece .after .view ≡ after (s .progress .view) (P .item s (nextRecord piece .view))
-  verdict : not (stepOn P s piece .goesOn) ≡ refuses (s .progress .view) (P .item s (nextRecord piece .view))
+  view : stepOn (P .step) s piece .after .view ≡ after (s .progress .view) (P .item s (nextRecord piece .view))
+  verdict : not (stepOn (P .step) s piece .goesOn) ≡ refuses (s .progress .view) (P .item s (nextRecord piece .view))
 
 ready : (o : Outcome) (b : Bool) → (isReady o && b) ≡ true → (o ≡ Ready) × (b ≡ true)
 ready Ready b h = (refl, h)
@@ -107,7 +107,7 @@ listing-is-call s piece room h =
             rw (listing-has-room (R .shape) (r .mark) (s .output) (row-fits (p .view) (r .id) (r .entries) z) room) (sym z)
 
 -- a step that comes to no call does not go on
-pub page-stops : (s : Running) (piece : List ℕ) → comesToCall pageProgram piece ≡ false → stepOn pageProgram s piece .goesOn ≡ false
+pub page-stops : (s : Running) (piece : List ℕ) → comesToCall pageProgram piece ≡ false → stepOn pageStep s piece .goesOn ≡ false
 page-stops s piece h = go (nextRecord piece .outcome) h
   where
     go : (o : Outcome) → (isReady o && true) ≡ false → onRecord pageRow (s .progress) (s .output) o (nextRecord piece .view) .goesOn ≡ false
@@ -115,7 +115,7 @@ page-stops s piece h = go (nextRecord piece .outcome) h
     go Ended z = refl
     go (Refused n) z = refl
 
-pub listing-stops : (s : Running) (piece : List ℕ) → comesToCall listingProgram piece ≡ false → stepOn listingProgram s piece .goesOn ≡ false
+pub listing-stops : (s : Running) (piece : List ℕ) → comesToCall listingProgram piece ≡ false → stepOn listingStep s piece .goesOn ≡ false
 listing-stops s piece h = go (nextRecord piece .outcome) h
   where
     go : (o : Outcome) → (isReady o && isMark (nextRecord piece .view .mark)) ≡ false → onRecord listingRow (s .progress) (s .output) o (nextRecord piece .view) .goesOn ≡ false
@@ -127,7 +127,7 @@ listing-stops s piece h = go (nextRecord piece .outcome) h
 module _ (P : Program) (q : Renderer)
     (counts : (s : Running) (r : RecordView) → callOf (P .item s r) ≡ Row (r .id) (r .entries))
     (is-call : (s : Running) (piece : List ℕ) → P .room ≤ length (s .output) → comesToCall P piece ≡ true → IsCall P s piece)
-    (stops : (s : Running) (piece : List ℕ) → comesToCall P piece ≡ false → stepOn P s piece .goesOn ≡ false) where
+    (stops : (s : Running) (piece : List ℕ) → comesToCall P piece ≡ false → stepOn (P .step) s piece .goesOn ≡ false) where
   -- the call of a step
   abbrev made : Running → List ℕ → Item
   made s piece = P .item s (nextRecord piece .view)
@@ -158,9 +158,9 @@ module _ (P : Program) (q : Renderer)
   none : (s : Running) → Calls s []
   none s = record { all-alike = tt; are-calls = record { left = refl; refusals = refl }; in-bytes = λ w a. tt }
 
-  more : (s : Running) (piece : List ℕ) (ks : List (List ℕ)) → IsCall P s piece → Calls (afterStep P s piece) ks → Calls s (piece ∷ ks)
+  more : (s : Running) (piece : List ℕ) (ks : List (List ℕ)) → IsCall P s piece → Calls (afterStep (P .step) s piece) ks → Calls s (piece ∷ ks)
   more s piece ks c C =
-      let items : List Item = itemsFrom P (afterStep P s piece) ks in
+      let items : List Item = itemsFrom P (afterStep (P .step) s piece) ks in
       record {
         all-alike = (alike s piece c, rw (← c .view) (C .all-alike));
         are-calls =
@@ -178,15 +178,15 @@ module _ (P : Program) (q : Renderer)
   calls : (s : Running) (reads : List (List ℕ)) → P .room ≤ length (s .output) → Calls s (rowsFrom s reads)
   calls s [] room = none s
   calls s (piece ∷ rest) room =
-      go (comesToCall P piece) refl (stepOn P s piece .goesOn) refl (calls (afterStep P s piece) rest (omega (arith, room, over-long (stepOn P s piece .written) (s .output))))
+      go (comesToCall P piece) refl (stepOn (P .step) s piece .goesOn) refl (calls (afterStep (P .step) s piece) rest (omega (arith, room, over-long (stepOn (P .step) s piece .written) (s .output))))
     where
       behind : Bool → List (List ℕ)
-      behind g = keep (comesToCall P) (cond g (stepsTaken P (afterStep P s piece) rest) [])
+      behind g = keep (comesToCall P) (cond g (stepsTaken P (afterStep (P .step) s piece) rest) [])
 
-      go : (b : Bool) → comesToCall P piece ≡ b → (g : Bool) → stepOn P s piece .goesOn ≡ g → Calls (afterStep P s piece) (rowsFrom (afterStep P s piece) rest)
+      go : (b : Bool) → comesToCall P piece ≡ b → (g : Bool) → stepOn (P .step) s piece .goesOn ≡ g → Calls (afterStep (P .step) s piece) (rowsFrom (afterStep (P .step) s piece) rest)
           → Calls s (cond b (piece ∷ behind g) (behind g))
-      go true b true g C = more s piece (rowsFrom (afterStep P s piece) rest) (is-call s piece room b) C
-      go true b false g C = more s piece [] (is-call s piece room b) (none (afterStep P s piece))
+      go true b true g C = more s piece (rowsFrom (afterStep (P .step) s piece) rest) (is-call s piece room b) C
+      go true b false g C = more s piece [] (is-call s piece room b) (none (afterStep (P .step) s piece))
       go false b true g C = absurd (false≢true (sym (stops s piece b) ∙ g))
       go false b false g C = none s
 
@@ -204,14 +204,14 @@ module _ (P : Program) (q : Renderer)
       }
 
 -- what the steps write is what the program writes
-written-is : (P : Program) (s : Running) (reads : List (List ℕ)) → stepByStep (P .step) (s .progress) (s .output) reads ≡ writtenBy P s (stepsTaken P s reads)
+written-is : (P : Program) (s : Running) (reads : List (List ℕ)) → stepByStep (P .step) (s .progress) (s .output) reads ≡ writtenBy (P .step) s (stepsTaken P s reads)
 written-is P s [] = refl
-written-is P s (piece ∷ rest) = go (stepOn P s piece .goesOn) (written-is P (afterStep P s piece) rest)
+written-is P s (piece ∷ rest) = go (stepOn (P .step) s piece .goesOn) (written-is P (afterStep (P .step) s piece) rest)
   where
-    go : (g : Bool) → stepByStep (P .step) (afterStep P s piece .progress) (afterStep P s piece .output) rest ≡ writtenBy P (afterStep P s piece) (stepsTaken P (afterStep P s piece) rest)
-        → stepOn P s piece .written ++ cond g (stepByStep (P .step) (afterStep P s piece .progress) (afterStep P s piece .output) rest) []
-        ≡ stepOn P s piece .written ++ writtenBy P (afterStep P s piece) (cond g (stepsTaken P (afterStep P s piece) rest) [])
-    go true e = ap (λ (x : List ℕ). stepOn P s piece .written ++ x) e
+    go : (g : Bool) → stepByStep (P .step) (afterStep (P .step) s piece .progress) (afterStep (P .step) s piece .output) rest ≡ writtenBy (P .step) (afterStep (P .step) s piece) (stepsTaken P (afterStep (P .step) s piece) rest)
+        → stepOn (P .step) s piece .written ++ cond g (stepByStep (P .step) (afterStep (P .step) s piece .progress) (afterStep (P .step) s piece .output) rest) []
+        ≡ stepOn (P .step) s piece .written ++ writtenBy (P .step) (afterStep (P .step) s piece) (cond g (stepsTaken P (afterStep (P .step) s piece) rest) [])
+    go true e = ap (λ (x : List ℕ). stepOn (P .step) s piece .written ++ x) e
     go false e = refl
 
 -- ---- the two programs, on the bytes of any file
@@ -244,8 +244,8 @@ pub listings-in-bytes : (q : Renderer) (file : List ℕ)
 listings-in-bytes q file = from-start listingProgram q (λ s r. refl) listing-is-call listing-stops (readsOf file) .in-bytes nobody nothingAbove
 
 -- these steps write what the programs write
-pub page-written : (file : List ℕ) → pageOf file ≡ writtenBy pageProgram (started pageProgram) (stepsTaken pageProgram (started pageProgram) (readsOf file))
+pub page-written : (file : List ℕ) → pageOf file ≡ writtenBy pageStep (started pageProgram) (stepsTaken pageProgram (started pageProgram) (readsOf file))
 page-written file = written-is pageProgram (started pageProgram) (readsOf file)
 
-pub listing-written : (file : List ℕ) → listingOf file ≡ writtenBy listingProgram (started listingProgram) (stepsTaken listingProgram (started listingProgram) (readsOf file))
+pub listing-written : (file : List ℕ) → listingOf file ≡ writtenBy listingStep (started listingProgram) (stepsTaken listingProgram (started listingProgram) (readsOf file))
 listing-written file = written-is listingProgram (started listingProgram) (readsOf file)

@@ -2,28 +2,22 @@
 use Prim.Native.Nat.{ℕ}
 use mathlib.Core.Path.{_≡_}
 use mathlib.Core.Bool.{Bool, true, false, cond, not, _&&_}
-use mathlib.Core.List.{List, [], _∷_, _++_}
+use mathlib.Core.List.{List, [], _∷_}
 use lib.ListN.{replicate}
 use Rattle.render.specs.declared.types.RowShape.{RowShape}
 use Rattle.render.specs.Mark.{isMark}
-use Rattle.slices.specs.Joins.{over}
 use Rattle.glyphs.specs.declared.Renderer.{Renderer}
 use Rattle.glyphs.specs.declared.Renderer.the-variants.{Curved}
 use Rattle.glyphs.specs.Cells.{keep}
 use Rattle.record.specs.declared.Outcome.{Outcome}
 use Rattle.record.specs.declared.Outcome.the-variants.{Ready, Ended, Refused}
 use Rattle.record.specs.Record.{RecordView, nextRecord}
-use Rattle.steps.specs.Steps.{ProgressView, beginning, StepReply, pageStep, listingStep}
-use Rattle.steps.specs.Files.{pageRoom, listingRoom}
+use Rattle.steps.specs.Steps.{ProgressView, StepReply, pageStep, listingStep}
+use Rattle.steps.specs.Files.{Running, startedOn, stepOn, afterStep, pageRoom, listingRoom}
 use Rattle.history.specs.Account.{Call, Row}
 use Rattle.history.specs.Demand3.{Machine}
 use Rattle.history.specs.Follows.{leaves, verdicts}
 use Rattle.history.specs.Ours.{Item, Plain, Text, shapeOf, headLine, footLine, ours}
-
--- a program between two steps: what it keeps, and its output
-pub record Running : Type 0 where
-  pub progress : ProgressView
-  pub output : List ℕ
 
 -- a program: its step, whether a record comes to the call, that call, and the length of the output
 pub record Program : Type 0 where
@@ -58,27 +52,14 @@ abbrev pub rowRead : List ℕ → Call
 rowRead piece = Row (nextRecord piece .view .id) (nextRecord piece .view .entries)
 
 module _ (P : Program) where
-  -- what a program begins with: a fresh shaper among it, and an output of zeros
+  -- what it begins with: an output of zeros
   abbrev pub started : Running
-  started = record { progress = beginning; output = replicate (P .room) 0 }
-
-  -- a step on the bytes that are read
-  abbrev pub stepOn : Running → List ℕ → StepReply
-  stepOn s piece = P .step (s .progress) piece (s .output)
-
-  -- the program after it
-  abbrev pub afterStep : Running → List ℕ → Running
-  afterStep s piece = record { progress = stepOn s piece .after; output = over (stepOn s piece .written) (s .output) }
+  started = startedOn (replicate (P .room) 0)
 
   -- what a program takes a step on: all that it reads, up to the step that does not go on
   abbrev pub stepsTaken : Running → List (List ℕ) → List (List ℕ)
   stepsTaken s [] = []
-  stepsTaken s (piece ∷ rest) = piece ∷ cond (stepOn s piece .goesOn) (stepsTaken (afterStep s piece) rest) []
-
-  -- the bytes that these steps write
-  abbrev pub writtenBy : Running → List (List ℕ) → List ℕ
-  writtenBy s [] = []
-  writtenBy s (piece ∷ rest) = stepOn s piece .written ++ writtenBy (afterStep s piece) rest
+  stepsTaken s (piece ∷ rest) = piece ∷ cond (stepOn (P .step) s piece .goesOn) (stepsTaken (afterStep (P .step) s piece) rest) []
 
   -- whether a step comes to the call
   abbrev pub comesToCall : List ℕ → Bool
@@ -91,7 +72,7 @@ module _ (P : Program) where
   -- their calls
   abbrev pub itemsFrom : Running → List (List ℕ) → List Item
   itemsFrom s [] = []
-  itemsFrom s (piece ∷ rest) = P .item s (nextRecord piece .view) ∷ itemsFrom (afterStep s piece) rest
+  itemsFrom s (piece ∷ rest) = P .item s (nextRecord piece .view) ∷ itemsFrom (afterStep (P .step) s piece) rest
 
   -- the shape of the row that a step draws
   abbrev pub stepShape : Running → List ℕ → RowShape
@@ -105,8 +86,8 @@ module _ (P : Program) where
         columns = λ s. s .progress .view .columns;
         Item = List ℕ;
         call = rowRead;
-        refuses = λ s piece. not (stepOn s piece .goesOn);
-        after = afterStep;
+        refuses = λ s piece. not (stepOn (P .step) s piece .goesOn);
+        after = afterStep (P .step);
         node = λ s piece. stepShape s piece .«node_column»;
         head = λ s piece. headLine q (stepShape s piece);
         foot = λ s piece. footLine q (stepShape s piece);

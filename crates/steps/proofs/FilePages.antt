@@ -10,6 +10,7 @@ use lib.Dec.{ltb, eqb}
 use lib.ListN.{length, take, drop, replicate, length-append, length-drop, length-take, length-replicate}
 use lib.Seq.{take-append-seam}
 use Rattle.render.specs.declared.render.Ancestor.{Ancestor as Entry}
+use Rattle.render.specs.declared.types.DashStyle.{DashStyle}
 use Rattle.render.specs.Mark.{isMark}
 use Rattle.render.specs.Refusals.{notRefused, markOutsideSpan, messageTooLong, messageByteNotWritable, recordCutShort, refusal}
 use Rattle.shaper.specs.Shaper.{View, heightLimit}
@@ -29,7 +30,7 @@ use Rattle.record.specs.Record.{recordLength, pieces, messageRoom, roomOf, upTo
 use Rattle.steps.specs.Steps.{refusedIn, refusedLine, ProgressView, programOptions, beginning, next, StepReply, stopped, stepped, pageRow, listingRow, onRecord, pageStep, listingStep}
 use Rattle.steps.specs.Files.{readsOf, stepByStep, pageRoom, listingRoom, pageOf, listingOf, callsOn, callsFrom, callsOf, stopOn, stopFrom, stopOf}
 use Rattle.steps.proofs.LineBytes.{line-is}
-use Rattle.steps.proofs.Lengths.{glyph-short, queued-short}
+use Rattle.steps.proofs.Lengths.{curved-six, curved-four, queued-short}
 use Rattle.steps.proofs.Room.{QueueShort, same-refusal}
 
 -- ---- a record's message is within its room
@@ -86,7 +87,7 @@ module _ (p : ProgressView) (r : RecordView) (out : List ℕ) (few : QueueShort 
 
   row-is : pageRow p r out ≡ drawn (refusal (drawnChecks (r .mark) (r .message) rowed))
   unfolding textWith
-  row-is = ap by (same-refusal (p .view) (p .text) few Curved (r .id) (r .entries) (r .mark) (r .message) out low short room) ∙ go (refusal (drawnChecks (r .mark) (r .message) rowed))
+  row-is = ap by (same-refusal (p .view) (p .text) few (r .id) (r .entries) (r .mark) (r .message) out low short room) ∙ go (refusal (drawnChecks (r .mark) (r .message) rowed))
     where
       given : ℕ → TextReply
       given k = textAnswer k lines out (p .view) (rowed .view) (p .text) end
@@ -102,7 +103,12 @@ module _ (p : ProgressView) (r : RecordView) (out : List ℕ) (few : QueueShort 
   end-short z =
       let e : rowed .refusal ≡ 0 =
       row-accepted (not (isMark (r .mark))) (ltb messageLimit (length (r .message))) (not (allOf isWritable (r .message))) (eqb (rowed .refusal) 0) (rowed .refusal) refl z in
-      queued-short finish trim-length (glyphsOf Curved) (glyph-short Curved) Curved (rowed .shape) (r .mark) (row-fits (p .view) (r .id) (r .entries) e) (linesOf (r .message)) (p .view .height)
+      let d : DashStyle = rowed .shape .style .«dash_style» in
+      omega (
+        arith,
+        queued-short finish trim-length (glyphsOf Curved) Curved (rowed .shape) (r .mark) 6 4 (curved-six d (r .mark)) (curved-four d (r .mark))
+            (row-fits (p .view) (r .id) (r .entries) e) (linesOf (r .message)) (p .view .height),
+      )
 
 -- ---- what is read, piece by piece
 pub over-long : (bs out : List ℕ) → length out ≤ length (over bs out)

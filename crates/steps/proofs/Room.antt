@@ -10,6 +10,7 @@ use lib.Dec.{ltb, eqb}
 use lib.ListN.{length, take, length-append, length-take}
 use Rattle.column.specs.Columns.{columnLimit}
 use Rattle.render.specs.declared.render.Ancestor.{Ancestor as Entry}
+use Rattle.render.specs.declared.types.DashStyle.{DashStyle}
 use Rattle.render.specs.declared.types.RowShape.{RowShape}
 use Rattle.render.specs.Entries.{tooMany}
 use Rattle.render.specs.Mark.{isMark}
@@ -19,7 +20,7 @@ use Rattle.placing.specs.Placing.{Placed, place}
 use Rattle.row_shape.specs.Row.{RowReply, rowAnswer, rowChecks, row}
 use Rattle.row_shape.proofs.RowFits.{row-fits}
 use Rattle.slices.specs.Characters.{newline}
-use Rattle.glyphs.specs.declared.Renderer.{Renderer}
+use Rattle.glyphs.specs.declared.Renderer.the-variants.{Curved}
 use Rattle.glyphs.specs.Cells.{glyphsOf}
 use Rattle.prefix_lines.specs.Listing.{listingBytes}
 use Rattle.message.specs.Message.{messageLimit, isWritable, allOf, linesOf}
@@ -29,7 +30,7 @@ use Rattle.output.specs.Output.{queueLimit, finish, ended, textOf, TextView, te
 use Rattle.text.specs.Text.{textLines, textAfter, drawnChecks, textChecks, textAnswer, textWith, text}
 use Rattle.record.specs.Record.{messageRoom}
 use Rattle.steps.specs.Files.{pageRoom, listingRoom}
-use Rattle.steps.proofs.Lengths.{glyph-short, text-short, lines-within, listing-short}
+use Rattle.steps.proofs.Lengths.{curved-six, curved-four, text-short, lines-within, listing-short}
 
 -- ---- the row call never gives 8
 row-number : (v : View) (n : ℕ) (es : List Entry) (p : Placed) (many wide : Bool) → tooMany es ≡ many → ltb columnLimit (length (p .walked)) ≡ wide
@@ -81,20 +82,20 @@ struct-short t long = go (t .«is_queued»)
         (omega (arith, long, trim-length line, length-take (t .«queued_length») (t .«queued_pad_line»)))
     go false = zero-le
 
-module _ (v : View) (t : TextView) (few : QueueShort t) (q : Renderer) (n : ℕ) (es : List Entry) (mark : ℕ) (m out : List ℕ) where
+module _ (v : View) (t : TextView) (few : QueueShort t) (n : ℕ) (es : List Entry) (mark : ℕ) (m out : List ℕ) where
   abbrev rowed : RowReply
   rowed = row v n es
 
   abbrev lines : List (List ℕ)
-  lines = textLines finish (glyphsOf q) t q (rowed .shape) mark (linesOf m) (v .height)
+  lines = textLines finish (glyphsOf Curved) t Curved (rowed .shape) mark (linesOf m) (v .height)
 
   module _ (h : v .height ≤ heightLimit) (k : length m ≤ messageRoom) (o : pageRoom ≤ length out) where
     pub has-room : rowed .refusal ≡ 0 → length (textOf lines) ≤ length out
     has-room e =
-        let w : rowed .shape .width ≤ columnLimit = row-fits v n es e in
+        let d : DashStyle = rowed .shape .style .«dash_style» in
         omega (
           arith,
-          text-short finish trim-length (glyphsOf q) (glyph-short q) q (rowed .shape) mark w t (linesOf m) (v .height) few,
+          text-short finish trim-length (glyphsOf Curved) Curved (rowed .shape) mark 6 4 (curved-six d mark) (curved-four d mark) (row-fits v n es e) t (linesOf m) (v .height) few,
           lines-few m,
           lines-within m,
         )
@@ -105,12 +106,12 @@ module _ (v : View) (t : TextView) (few : QueueShort t) (q : Renderer) (n : ℕ)
         numbers (not (isMark mark)) (ltb messageLimit (length m)) (not (allOf isWritable m)) (eqb (rowed .refusal) 0) (ltb (length out) (length (textOf lines))) (rowed .refusal) refl
         (λ z. le-ltb (length out) (length (textOf lines)) (has-room (eqb-true (rowed .refusal) 0 z)))
 
-    pub page-has-room : text v t q n es mark m out .refusal ≢ outputShorterThanLines
+    pub page-has-room : text v t Curved n es mark m out .refusal ≢ outputShorterThanLines
     unfolding textWith
     page-has-room e =
         not-eight (not (isMark mark)) (ltb messageLimit (length m)) (not (allOf isWritable m)) (eqb (rowed .refusal) 0) (rowed .refusal) (row-small v n es)
         (sym same-refusal
-        ∙ sym (number-told (refusal (textChecks mark m rowed (textOf lines) out)) lines out v (rowed .view) t (textAfter (glyphsOf q) q (rowed .shape) mark (linesOf m) (v .height)))
+        ∙ sym (number-told (refusal (textChecks mark m rowed (textOf lines) out)) lines out v (rowed .view) t (textAfter (glyphsOf Curved) Curved (rowed .shape) mark (linesOf m) (v .height)))
         ∙ e)
 
 -- ---- the listing

@@ -20,6 +20,29 @@ use Rattle.steps.specs.Steps.{refusedLine, ProgressView, beginning, next
 abbrev pub readsOf : List ℕ → List (List ℕ)
 readsOf file = pieces (suc (length file / recordLength)) file
 
+-- a program between two steps: what it keeps, and its output
+pub record Running : Type 0 where
+  pub progress : ProgressView
+  pub output : List ℕ
+
+-- what a program begins with on an output: a fresh shaper among it
+abbrev pub startedOn : List ℕ → Running
+startedOn out = record { progress = beginning; output = out }
+
+module _ (step : ProgressView → List ℕ → List ℕ → StepReply) where
+  -- a step on the bytes that are read
+  abbrev pub stepOn : Running → List ℕ → StepReply
+  stepOn s piece = step (s .progress) piece (s .output)
+
+  -- the program after it
+  abbrev pub afterStep : Running → List ℕ → Running
+  afterStep s piece = record { progress = stepOn s piece .after; output = over (stepOn s piece .written) (s .output) }
+
+  -- the bytes that steps on all of these write
+  abbrev pub writtenBy : Running → List (List ℕ) → List ℕ
+  writtenBy s [] = []
+  writtenBy s (piece ∷ rest) = stepOn s piece .written ++ writtenBy (afterStep s piece) rest
+
 -- what a program writes: the bytes of each step, and the next step on what it keeps and on the same output, until one does not go on
 abbrev pub stepByStep : (ProgressView → List ℕ → List ℕ → StepReply) → ProgressView → List ℕ → List (List ℕ) → List ℕ
 stepByStep step p out [] = []
@@ -29,7 +52,7 @@ stepByStep step p out (piece ∷ rest) =
 
 -- the outputs of the programs; no record needs more (steps/proofs/Room)
 abbrev pub pageRoom : ℕ
-pageRoom = 131072
+pageRoom = 24576
 
 abbrev pub listingRoom : ℕ
 listingRoom = 4096
