@@ -7,6 +7,7 @@ mod growing;
 mod hand_made;
 mod histories;
 mod long_lists;
+mod record_calls;
 mod values;
 
 use crate::machine::Machine;

@@ -1,6 +1,7 @@
 //! Document 01's marked rows M1 to M10 as lists, and a list about the stream format itself.
 
 use crate::machine::Machine;
+use crate::record_bytes;
 use crate::refusals;
 use crate::stream::encode;
 use crate::stream::Command;
@@ -178,14 +179,8 @@ fn drawn(before: &[Command]) -> Command {
 
 /// A record call on one whole record with mark `o` and no message.
 fn record(node: u32, pairs: &[(u8, u32)]) -> Command {
-    let mut bytes = node.to_le_bytes().to_vec();
-    bytes.extend([b'o', pairs.len() as u8]);
-    for (kind, id) in pairs {
-        bytes.push(*kind);
-        bytes.extend(id.to_le_bytes());
-    }
-    bytes.resize(refusals::RECORD, 0);
-    Command::Record(bytes)
+    let count = pairs.len() as u8;
+    Command::Record(record_bytes::whole(node, b'o', count, &entries(pairs), &[]))
 }
 
 /// A shaper of height 1 whose column 0 holds this id as Parent.

@@ -14,7 +14,6 @@ use crate::programs;
 use crate::record_files;
 use crate::records;
 use crate::refusals;
-use crate::refusals::Refusal;
 use crate::replay::Ended;
 use crate::replay::Replay;
 
@@ -244,16 +243,9 @@ fn stop(written: &[u8]) -> Option<Stop> {
 
 /// The conditions that the bytes of a record, cut or whole, break by themselves, each of them alone: all but that of the columns.
 fn broken(bytes: &[u8]) -> Vec<u8> {
-    let mut whole = bytes.to_vec();
-    whole.resize(refusals::RECORD, 0);
-    let record = records::parts(&whole);
-    let checks = [
-        refusals::record_length(bytes.len()),
-        refusals::record_entries(whole[records::COUNT_AT]),
-        refusals::record_kinds(record.entries.iter().map(|entry| entry.kind)),
-        refusals::mark(record.mark),
-        refusals::message_bytes(&record.message),
-    ];
-    let broken = checks.into_iter().filter_map(Result::err);
-    broken.map(|Refusal(number)| number).collect()
+    let record = records::parts(&records::padded(bytes));
+    let mut checks = records::checks(bytes);
+    checks.push(refusals::mark(record.mark));
+    checks.push(refusals::message_bytes(&record.message));
+    refusals::broken(checks)
 }

@@ -1,8 +1,9 @@
 //! Seeded record files for the two programs: few ids, every limit of a record from both sides, damaged bytes and cut ends.
 
 use crate::random::Random;
-use crate::records;
+use crate::record_bytes;
 use crate::refusals;
+use crate::stream::Entry;
 
 /// The most records of a short file.
 const RECORDS: u64 = 12;
@@ -17,10 +18,6 @@ const NEAR: u64 = 20;
 const IDS: [u32; 10] = [0, u32::MAX, 1, 2, 3, 7, 10, 256, 65_536, u32::MAX - 1];
 /// The first id of a file whose parents are all new.
 const FRESH: u32 = 1000;
-/// Marks outside 21 to 7E.
-const BAD_MARKS: [u8; 8] = [0x20, 0x7f, 0x00, 0x0a, 0x1f, 0x80, 0xc2, 0xff];
-/// Bytes that no message may hold.
-const BAD_BYTES: [u8; 8] = [0x09, 0x1f, 0x7f, 0x0d, 0x80, 0x0b, 0xc2, 0xff];
 
 /// How a file's ids are chosen.
 #[derive(Clone, Copy)]
@@ -100,13 +97,12 @@ impl Maker {
         let id = self.node(left);
         let mark = self.mark();
         let count = self.count();
-        self.bytes.extend(id.to_le_bytes());
-        self.bytes.extend([mark, count]);
-        for place in 0..refusals::RECORD_ENTRIES {
-            self.entry(left, place < count);
-        }
-        let message = self.message();
-        self.bytes.extend(message);
+        let entries: Vec<_> = (0..refusals::RECORD_ENTRIES)
+            .map(|place| self.entry(left, place < count))
+            .collect();
+        let room = record_bytes::message(&mut self.random);
+        let record = record_bytes::whole(id, mark, count, &entries, &room);
+        self.bytes.extend(record);
     }
 
     /// A record's id.
@@ -133,14 +129,9 @@ impl Maker {
         }
     }
 
-    /// Puts in an entry, used or not.
-    fn entry(&mut self, left: u32, used: bool) {
-        let kinds: &[u8] = if used {
-            &[0, 1, 1, 2, 2, 2, 2]
-        } else {
-            &[0, 0, 1, 2, 3, 255]
-        };
-        let kind = self.random.pick(kinds);
+    /// An entry, used or not.
+    fn entry(&mut self, left: u32, used: bool) -> Entry {
+        let kind = record_bytes::kind(&mut self.random, used);
         let id = match self.ids {
             Ids::Falling if left > 0 => self.random.below(u64::from(left)) as u32,
             Ids::Near => left.saturating_sub(self.random.from(1, NEAR) as u32),
@@ -150,31 +141,7 @@ impl Maker {
             }
             _ => self.random.pick(&self.few),
         };
-        self.bytes.push(kind);
-        self.bytes.extend(id.to_le_bytes());
-    }
-
-    /// The message's room: a message that passes, and behind its zero byte anything.
-    fn message(&mut self) -> Vec<u8> {
-        let room = refusals::RECORD - records::MESSAGE_AT;
-        let length = match self.random.weighted(&[6, 2, 6, 2]) {
-            0 => 0,
-            1 => 1,
-            2 => self.random.below(room as u64) as usize,
-            _ => self.random.pick(&[room - 1, room]),
-        };
-        let from: &[u8] = self
-            .random
-            .pick(&[b"abc d ~".as_slice(), b"ab  \n", b"\n\n\na"]);
-        let behind: &[u8] = self
-            .random
-            .pick(&[b"\0".as_slice(), b"\0z\n", b"\0\x01\xff"]);
-        let mut message: Vec<u8> = (0..length).map(|_| self.random.pick(from)).collect();
-        if length < room {
-            message.push(0);
-        }
-        message.resize_with(room, || self.random.pick(behind));
-        message
+        Entry { kind, id }
     }
 
     /// Leaves the file as it is, cuts it, or damages some of its bytes.
@@ -221,23 +188,9 @@ impl Maker {
 
     /// Puts a byte beyond its limit, or at it, into the record that begins there.
     fn spoil(&mut self, start: Option<usize>) {
-        let Some(start) = start else {
-            return;
-        };
-        let entry = self.random.below(u64::from(refusals::RECORD_ENTRIES)) as usize;
-        let letter = self
-            .random
-            .from(records::MESSAGE_AT as u64, refusals::RECORD as u64 - 1);
-        let (place, byte) = match self.random.below(4) {
-            0 => (records::MARK_AT, self.random.pick(&BAD_MARKS)),
-            1 => (records::COUNT_AT, self.random.pick(&[8, 9, 10, 255])),
-            2 => (
-                records::ENTRIES_AT + entry * records::ENTRY_BYTES,
-                self.random.pick(&[2, 3, 4, 255]),
-            ),
-            _ => (letter as usize, self.random.pick(&BAD_BYTES)),
-        };
-        self.bytes[start + place] = byte;
+        if let Some(start) = start {
+            record_bytes::spoil(&mut self.random, &mut self.bytes[start..]);
+        }
     }
 
     /// Puts any byte anywhere.

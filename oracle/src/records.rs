@@ -36,6 +36,24 @@ pub fn record(left: &[u8]) -> Result<Option<Record>, Refusal> {
     Ok(Some(record))
 }
 
+/// The conditions of the record call, each taken by itself, in document 01's order; bytes that are cut off are 0.
+pub fn checks(left: &[u8]) -> Vec<Result<(), Refusal>> {
+    let bytes = padded(left);
+    let kinds = parts(&bytes).entries.into_iter().map(|entry| entry.kind);
+    vec![
+        refusals::record_length(left.len()),
+        refusals::record_entries(bytes[COUNT_AT]),
+        refusals::record_kinds(kinds),
+    ]
+}
+
+/// The record at the head of some bytes; those that are cut off are 0.
+pub fn padded(left: &[u8]) -> Vec<u8> {
+    let mut bytes = left.to_vec();
+    bytes.resize(refusals::RECORD, 0);
+    bytes
+}
+
 /// What the bytes of a record say, of which each may be wrong.
 pub fn parts(bytes: &[u8]) -> Record {
     Record {

@@ -17,13 +17,14 @@ pub const RECORD_KIND: u8 = 2;
 /// The greatest refusal number.
 pub const LAST: u8 = 12;
 /// The refusals of each call of a generated list, by its letter, in document 01's order.
-pub const OF_CALLS: [(u8, &[u8]); 6] = [
+pub const OF_CALLS: [(u8, &[u8]); 7] = [
     (b'N', &[1]),
     (b'R', &[2]),
     (b'P', &[5, 12, 8]),
     (b'T', &[5, 6, 7, 3, 4, 8]),
     (b'W', &[3, 4]),
     (b'V', &[3]),
+    (b'D', &[9, 10, 11]),
 ];
 /// The refusals at which the page program can stop: a record's entries, message and lines are within the limits of 3, 6 and 8.
 pub const OF_PAGE: &[u8] = &[9, 10, 11, 5, 7, 4];
@@ -41,6 +42,12 @@ fn refuse(number: u8, condition: bool) -> Result<(), Refusal> {
     } else {
         Ok(())
     }
+}
+
+/// The numbers of the conditions that hold, in the order of their checks.
+pub fn broken(checks: Vec<Result<(), Refusal>>) -> Vec<u8> {
+    let broken = checks.into_iter().filter_map(Result::err);
+    broken.map(|Refusal(number)| number).collect()
 }
 
 /// 1: minimum row height above 16.

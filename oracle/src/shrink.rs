@@ -154,8 +154,12 @@ impl Walk for Alter {
         self.drop_items(bytes);
     }
 
-    fn rest(&mut self, _name: &'static str, bytes: &mut Vec<u8>) {
+    /// Each byte of the rest has its place, so that a smaller one is tried, too.
+    fn rest(&mut self, name: &'static str, bytes: &mut Vec<u8>) {
         self.drop_items(bytes);
+        for byte in bytes {
+            self.u8(name, byte);
+        }
     }
 
     fn commands(&mut self, commands: &mut Vec<Command>) {

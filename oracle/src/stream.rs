@@ -22,6 +22,17 @@ impl Letters {
         Self(ALL_LETTERS.to_vec())
     }
 
+    /// These letters but one.
+    pub fn without(&self, letter: u8) -> Self {
+        Self(
+            self.0
+                .iter()
+                .copied()
+                .filter(|one| *one != letter)
+                .collect(),
+        )
+    }
+
     /// Whether commands with this letter are run.
     pub fn know(&self, letter: u8) -> bool {
         letter == b'L' || self.0.contains(&letter)

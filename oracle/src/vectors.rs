@@ -1,4 +1,4 @@
-//! The vector stream: the marked rows, the format, lists of every length, and a sample of generated lists.
+//! The vector stream: the marked rows, the format, lists of every length, record calls at their limits, and a sample of generated lists.
 
 use std::collections::BTreeMap;
 use std::collections::BTreeSet;
@@ -7,6 +7,7 @@ use crate::answering::answered;
 use crate::generator;
 use crate::lengths;
 use crate::marked;
+use crate::record_limits;
 use crate::stream::encode;
 use crate::stream::Letters;
 
@@ -16,7 +17,11 @@ const SEED: u64 = 1;
 const FORMAT_LIST: u32 = 11;
 /// The number of the first list about the lengths of lists.
 const LENGTH_LISTS: u32 = 12;
-/// The first list number of the sample of commands that are built.
+/// The number of the list about the limits of records.
+const RECORD_LIST: u32 = 14;
+/// The letter of the record call, which works on no state.
+const RECORD: u8 = b'D';
+/// The first list number of the sample of commands that are built and work on a state.
 const BUILT_LISTS: u32 = 1000;
 /// The first list number of the sample of all commands.
 const ALL_LISTS: u32 = 2000;
@@ -39,7 +44,8 @@ pub fn stream(built: &Letters) -> Vec<u8> {
     for list in lengths::lists(LENGTH_LISTS) {
         stream.extend(encode(&list));
     }
-    stream.extend(sample(BUILT_LISTS, built));
+    stream.extend(encode(&record_limits::list(RECORD_LIST)));
+    stream.extend(sample(BUILT_LISTS, &built.without(RECORD)));
     stream.extend(sample(ALL_LISTS, &Letters::all()));
     stream.extend(marked::cut_command());
     stream

@@ -1,5 +1,7 @@
 //! Tells which kinds of input the calls of a list are, from each call, the states before it and its answer.
 
+mod record_calls;
+
 use std::collections::BTreeMap;
 use std::ops::RangeInclusive;
 
@@ -9,10 +11,12 @@ use crate::kinds::Kinds;
 use crate::machine::Answer;
 use crate::machine::Machine;
 use crate::machine::Output;
+use crate::records;
 use crate::refusals;
 use crate::refusals::Refusal;
 use crate::stream::encode;
 use crate::stream::Command;
+use crate::stream::Repeat;
 use crate::stream::Row;
 
 /// A list with more calls is long.
@@ -96,6 +100,10 @@ impl Watch {
                 self.message(&text.message);
                 self.queue();
             }
+            (Command::Record(left), Answer::Record(number, record)) => {
+                record_calls::watch(&mut self.kinds, left, *number, record.as_ref());
+            }
+            (Command::Repeat(repeat), _) => self.repeat(repeat),
             _ => {}
         }
         self.lengths(command, answer);
@@ -171,6 +179,14 @@ impl Watch {
         }
         for (kind, byte) in self.list.odd_bytes.drain(..) {
             self.kinds.add(kind, usize::from(byte));
+        }
+    }
+
+    /// A quiet repeat: whether record calls are in it.
+    fn repeat(&mut self, repeat: &Repeat) {
+        let is_record = |command: &Command| matches!(command, Command::Record(_));
+        if repeat.times > 0 && repeat.commands.iter().any(is_record) {
+            self.kinds.add(Kind::RecordRepeated, 0);
         }
     }
 
@@ -268,6 +284,7 @@ fn broken_kind(command: &Command) -> Option<Kind> {
         Command::Row(_) => Some(Kind::BrokenRow),
         Command::Renderer(_) => Some(Kind::BrokenRenderer),
         Command::Text(_) => Some(Kind::BrokenText),
+        Command::Record(_) => Some(Kind::BrokenRecordCall),
         _ => None,
     }
 }
@@ -292,10 +309,10 @@ fn broken(machine: &Machine, command: &Command) -> Vec<u8> {
             node_line(machine, &text.row),
             some_output(text.drawing.length),
         ],
+        Command::Record(left) => records::checks(left),
         _ => Vec::new(),
     };
-    let broken = checks.into_iter().filter_map(Result::err);
-    broken.map(|Refusal(number)| number).collect()
+    refusals::broken(checks)
 }
 
 /// 4, of a row with any number of entries.

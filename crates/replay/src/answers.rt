@@ -6,9 +6,10 @@ use crate::page::Page;
 use crate::printer::Buffer;
 use crate::printer::Printer;
 use crate::printer::put;
+use crate::printer::put_bytes;
 use crate::printer::put_comma;
 use crate::printer::put_named;
-use crate::printer::put_number;
+use crate::records::put_record;
 use crate::run::Answer;
 use crate::run::Reply;
 use crate::shapes::put_shape;
@@ -121,13 +122,6 @@ fn put_shaper(out: &mut Buffer, printer: Printer, shaper: Shaper) -> Printer {
     let slots = shaper.slots;
     let whole = put_columns(out, fields, slots, shaper.count);
     put(out, whole, b"\n")
-}
-
-// `COUNT:BYTES`
-fn put_bytes(out: &mut Buffer, printer: Printer, bytes: &[u8]) -> Printer {
-    let count = put_number(out, printer, bytes.len() as u64);
-    let colon = put(out, count, b":");
-    put(out, colon, bytes)
 }
 
 // The queued line, or `no`. A length beyond the limit is read as the limit.
@@ -252,6 +246,7 @@ pub(crate) fn put_reply(out: &mut Buffer, printer: Printer, page: &Page, reply: 
     let shaper = state.shaper;
     let shape = state.shape;
     let text = state.text;
+    let record = state.record;
     let answer = reply.answer;
     match answer {
         Answer::NotBuilt => put_not_built(out, printer),
@@ -267,6 +262,7 @@ pub(crate) fn put_reply(out: &mut Buffer, printer: Printer, page: &Page, reply: 
             let output = page::output(page, room);
             put_text(out, printer, refusal, length, measure, output, shaper, text)
         }
+        Answer::Record => put_record(out, printer, record),
         Answer::Shaper => put_shaper(out, printer, shaper),
         Answer::TextState => put_text_state(out, printer, text),
         Answer::Shape => put_shape(out, printer, shape),

@@ -4,6 +4,7 @@ mod codes;
 mod input;
 mod page;
 mod printer;
+mod records;
 mod run;
 mod shapes;
 mod words;

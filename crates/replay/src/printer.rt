@@ -109,6 +109,13 @@ pub(crate) fn put_named(out: &mut Buffer, printer: Printer, name: &[u8], number:
     put_number(out, named, number)
 }
 
+// Prints bytes after their count: `COUNT:BYTES`.
+pub(crate) fn put_bytes(out: &mut Buffer, printer: Printer, bytes: &[u8]) -> Printer {
+    let count = put_number(out, printer, bytes.len() as u64);
+    let colon = put(out, count, b":");
+    put(out, colon, bytes)
+}
+
 // The comma in front of every item but the first.
 pub(crate) fn put_comma(out: &mut Buffer, printer: Printer, first: bool) -> Printer {
     if first {

@@ -5,6 +5,7 @@ use crate::input::HEADER;
 use crate::page;
 use crate::page::Page;
 use crate::page::Text;
+use lineage::RecordAnswer;
 use output::TextState;
 use render::Options;
 use render::RowShape;
@@ -14,15 +15,17 @@ use shaper::Shaper;
 // The greatest length of a message in a payload.
 const MESSAGE: usize = 65535;
 
-// What the commands work on.
+// What the commands work on, and what the last record call gave.
 pub(crate) struct State {
     pub(crate) shaper: Shaper,
     pub(crate) shape: RowShape,
     pub(crate) text: TextState,
+    pub(crate) record: RecordAnswer,
 }
 
-// What a command answers, beside the state that it leaves. The calls give their refusal's number. A renderer call and a
-// text call leave their output on the page, and give the output's length last; in front of it, a text call gives the measure.
+// What a command answers, beside the state that it leaves. The calls give their refusal's number; the answer of a record call is in the
+// state. A renderer call and a text call leave their output on the page, and give the output's length last; in front of it, a text call
+// gives the measure.
 pub(crate) enum Answer {
     NotBuilt,
     List(u32),
@@ -32,6 +35,7 @@ pub(crate) enum Answer {
     Width(u8, u64),
     Renderer(u8, u64, usize),
     Text(u8, u64, u64, usize),
+    Record,
     Shaper,
     TextState,
     Shape,
@@ -46,7 +50,7 @@ pub(crate) struct Reply {
 
 impl State {
     // The state at the beginning of a stream or a list: the shaper is the one that a refused call gives, the shape, which a refused
-    // row gives too, and the text state are those of an empty payload.
+    // row gives too, the text state and the record are those of an empty payload.
     pub(crate) fn new() -> State {
         let graph_row_shape_style = codes::style(0, 0);
         let too_high = Options {
@@ -58,10 +62,12 @@ impl State {
         let shaper = refused.shaper;
         let shape = codes::shape(b"");
         let text = codes::text_state(b"");
+        let record = lineage::next_record(b"");
         State {
             shaper,
             shape,
             text,
+            record,
         }
     }
 }
@@ -200,6 +206,18 @@ fn text(payload: &[u8], page: &mut Page, state: State) -> Reply {
     text_with(payload, input::part(payload, start, end), page, state)
 }
 
+// `D`: the bytes left.
+fn record(payload: &[u8], state: State) -> Reply {
+    let given = lineage::next_record(payload);
+    let mut after = state;
+    after.record = given;
+    let answer = Answer::Record;
+    Reply {
+        answer,
+        state: after,
+    }
+}
+
 // `S`: count (at 0), previous (8), options (17), slots (28).
 fn set_shaper(payload: &[u8], state: State) -> Reply {
     let slots = codes::slots_at(payload, 28);
@@ -261,6 +279,7 @@ fn call(letter: u8, payload: &[u8], page: &mut Page, state: State) -> Reply {
         b'V' => width(payload, state),
         b'P' => render(payload, page, state),
         b'T' => text(payload, page, state),
+        b'D' => record(payload, state),
         b'S' => set_shaper(payload, state),
         b'Q' => set_text_state(payload, state),
         b'H' => set_shape(payload, state),

@@ -44,14 +44,16 @@ const BOTTOM: u32 = 1 << 13;
 
 const NONE: u32 = 1 << 14;
 
+pub(crate) const ANONYMOUS: u32 = 1 << 15;
+
 // The place of the first mark: the marks of a link cell stand last, in the order of their bits.
-const FIRST_MARK: u32 = 15;
+const FIRST_MARK: u32 = 16;
 
 // The bits of the thirteen marks in a link cell.
 const MARKS: u32 = 8191;
 
 // How many words there are.
-const WORDS: u32 = 28;
+const WORDS: u32 = 29;
 
 // What a field holds: a set of words or, where that is empty, a number.
 pub(crate) struct Value {
@@ -195,7 +197,7 @@ pub(crate) fn put_set(out: &mut Buffer, printer: Printer, set: u32) -> Printer {
     put_words(
         out,
         printer,
-        b"-|Blank|Ancestor|Parent|Node|no|yes|Empty|Blocked|Reserved|Persistent|Once|Top|Bottom|none|HORIZ_PARENT|HORIZ_ANCESTOR|VERT_PARENT|VERT_ANCESTOR|LEFT_FORK_PARENT|LEFT_FORK_ANCESTOR|RIGHT_FORK_PARENT|RIGHT_FORK_ANCESTOR|LEFT_MERGE_PARENT|LEFT_MERGE_ANCESTOR|RIGHT_MERGE_PARENT|RIGHT_MERGE_ANCESTOR|CHILD|",
+        b"-|Blank|Ancestor|Parent|Node|no|yes|Empty|Blocked|Reserved|Persistent|Once|Top|Bottom|none|Anonymous|HORIZ_PARENT|HORIZ_ANCESTOR|VERT_PARENT|VERT_ANCESTOR|LEFT_FORK_PARENT|LEFT_FORK_ANCESTOR|RIGHT_FORK_PARENT|RIGHT_FORK_ANCESTOR|LEFT_MERGE_PARENT|LEFT_MERGE_ANCESTOR|RIGHT_MERGE_PARENT|RIGHT_MERGE_ANCESTOR|CHILD|",
         set,
     )
 }

@@ -1,10 +1,8 @@
-//! Single values: ids, entries, options, marks, messages, lengths, record bytes.
+//! Single values: ids, entries, options, marks, messages, lengths.
 
 use super::Generator;
 use crate::codes;
 use crate::random::Random;
-use crate::records;
-use crate::refusals;
 use crate::stream::Entry;
 use crate::stream::Options;
 
@@ -230,52 +228,5 @@ impl Generator<'_> {
             5 => need / 2,
             _ => need + self.random.pick(&[61, 1000, 3000]),
         }
-    }
-
-    /// The bytes left for a record call: whole records, cut ones and damaged ones.
-    pub fn record(&mut self) -> Vec<u8> {
-        let mut bytes = self.whole_record();
-        match self.random.weighted(&[10, 2, 1, 2, 2, 2, 3]) {
-            0 => {}
-            1 => bytes.truncate(self.random.pick(&[1, 5, 64, 126, 127])),
-            2 => bytes.clear(),
-            3 => bytes[records::COUNT_AT] = self.random.pick(&[8, 9, 10, 255]),
-            4 => self.spoil_kind(&mut bytes),
-            5 => bytes.truncate(self.random.below(128) as usize),
-            _ => {
-                let further = self.short(72, b"abc\x00\xff");
-                bytes.extend(further);
-            }
-        }
-        bytes
-    }
-
-    /// A record that passes, with any bytes where they are ignored.
-    fn whole_record(&mut self) -> Vec<u8> {
-        let count = self.random.below(u64::from(refusals::RECORD_ENTRIES) + 1) as u8;
-        let mut bytes = self.id().to_le_bytes().to_vec();
-        bytes.push(self.mark());
-        bytes.push(count);
-        for place in 0..refusals::RECORD_ENTRIES {
-            let kinds: &[u8] = if place < count {
-                &[0, 1, 2, 2]
-            } else {
-                &[0, 0, 1, 3, 255]
-            };
-            bytes.push(self.random.pick(kinds));
-            bytes.extend(self.id().to_le_bytes());
-        }
-        let message = self.message();
-        bytes.extend(message.iter().take(refusals::RECORD - records::MESSAGE_AT));
-        let filler = self.random.pick(&[0, 0, 0, b'z']);
-        bytes.resize(refusals::RECORD, filler);
-        bytes
-    }
-
-    /// Gives an entry, used or not, a kind that does not exist.
-    fn spoil_kind(&mut self, bytes: &mut [u8]) {
-        let entry = self.random.below(u64::from(refusals::RECORD_ENTRIES)) as usize;
-        bytes[records::ENTRIES_AT + entry * records::ENTRY_BYTES] =
-            self.random.pick(&[2, 3, 4, 255]);
     }
 }

@@ -9,7 +9,7 @@ abbrev Inv-loop : tie.InvT-loop
 Inv-loop out₀ words set now₀ left₀ first₀ number₀ out now left first number = Unit {0}
 
 abbrev μ-loop : tie.MeasureT-loop
-μ-loop out₀ words set now₀ left₀ first₀ number₀ out now left first number = 28 - number
+μ-loop out₀ words set now₀ left₀ first₀ number₀ out now left first number = 29 - number
 
 loop-holds : tie.Need-loop-holds Inv-loop μ-loop
 loop-holds c = search needs
