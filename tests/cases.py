@@ -7,17 +7,15 @@ import sys
 
 sys.dont_write_bytecode = True
 
-from records import ANONYMOUS, COUNT, ENTRIES, ENTRY, MARK, MESSAGE, PARENT, RECORD, from_table, record
-
-# the longest that one run may take, in seconds
-LIMIT = 20
+from common import LIMIT
+from records import ANONYMOUS, COUNT, ENTRIES, ENTRY, MARK, MESSAGE, PARENT, RECORD, read_table, record
 
 # three records; the second has two used entries, and six that are not used
-HISTORY = from_table("""
+HISTORY = read_table(b"""
     30 o 20 10 | newest
     20 @ 10 ~5 | middle
     10 o       | oldest
-""")
+""").records
 
 
 def with_byte(place, byte, number=1):
@@ -80,10 +78,18 @@ def ids():
     yield "the records backwards", b"".join(HISTORY[at:at + RECORD] for at in (2 * RECORD, RECORD, 0))
 
 
+def like_refusals():
+    """Drawings in which the line of a refusal stands behind a prefix."""
+    line = b"refused 5 at record 0"
+    yield "a message like a refusal", record(1, "r", (), line)
+    yield "a mark and a message like a refusal", record(1, "r", (), line[1:])
+    yield "a last line like a refusal", record(2, "r", [(PARENT, 1)], b"x\n" + line) + record(1, "r", (), b"x\n" + line)
+
+
 def cases():
     """Every file, with its name."""
     yield "no bytes", b""
-    for part in (marks_and_counts, messages, order, widths, ids):
+    for part in (marks_and_counts, messages, order, widths, ids, like_refusals):
         yield from part()
     for rest in range(RECORD):
         yield f"cut after two records and {rest} bytes", HISTORY[:2 * RECORD + rest]
@@ -92,9 +98,11 @@ def cases():
 
 
 def main():
+    """Runs the command on each file."""
     for name, file in cases():
         run = subprocess.run(sys.argv[1:], input=file, stdout=subprocess.PIPE, timeout=LIMIT, check=True)
         sys.stdout.buffer.write(f"== {name}\n".encode() + run.stdout)
 
 
-main()
+if __name__ == "__main__":
+    main()

@@ -14,12 +14,16 @@ import re
 import sys
 import textwrap
 
+sys.dont_write_bytecode = True
+
+from common import read_text
+
 DOCUMENT = "docs/REQUIREMENTS.md"
 FAULTS = "oracle/src/demand3/faults.rs"
 PLACES = ("oracle/", "tests/", "examples/", "docs/", "crates/", "./")
 
-# names in backquotes that are nothing of ours: words of the language, of an answer and of the document, and files of a program
-OTHER = {"requires", "ensures", "&mut out[at..]", "&mut drawn[at..]", "not built", "..", "stdin", "stdout"}
+# names in backquotes that are nothing of ours: words of the language and of the document, and files of a program
+OTHER = {"requires", "ensures", "&mut out[at..]", "&mut drawn[at..]", "..", "stdin", "stdout"}
 
 # how a definition begins, by the file's ending: a name with its type, a record or a data type; an item
 BEGINS = {
@@ -30,11 +34,6 @@ BEGINS = {
 PART = r"(?m)^ {4}(?:pub )?(\w+(?=: )|[A-Z]\w*(?=,$|\())"
 # a function's head, which ends where its body begins
 HEAD = r"(?ms)^(?:pub(?:\(crate\))? )?(?:extern \"C\" )?fn %s\b.*?^\{$"
-
-
-def read(path):
-    with open(path, encoding="utf-8") as file:
-        return file.read()
 
 
 def stands(name, texts):
@@ -48,7 +47,7 @@ class Source:
 
     def __init__(self, path):
         ending = os.path.splitext(path)[1]
-        self.text = read(path)
+        self.text = read_text(path)
         self.begins = [(found[1], found.start()) for found in re.finditer(BEGINS[ending], self.text)]
         self.names = {name for name, _ in self.begins}
         if ending == ".rt":
@@ -65,9 +64,9 @@ class Sources:
     def __init__(self):
         paths = [path for ending in BEGINS for path in glob.glob(f"crates/**/*{ending}", recursive=True)]
         self.files = {path: Source(path) for path in paths}
-        self.crates = {line.split(":")[0] for line in read("crates.txt").splitlines()}
-        self.tests = set(re.findall(r"(?m)^ *check (\S+)", read("test")))
-        self.mutants = set(re.findall(r"(?m)^(\w+) ", re.search(r"(?s)wrong_machines='(.*?)'", read("test"))[1]))
+        self.crates = {line.split(":")[0] for line in read_text("crates.txt").splitlines()}
+        self.tests = set(re.findall(r"(?m)^ *check (\S+)", read_text("test")))
+        self.mutants = set(re.findall(r"(?m)^(\w+) ", re.search(r"(?s)wrong_machines='(.*?)'", read_text("test"))[1]))
         self.names = set.union(self.crates, *(file.names for file in self.files.values()))
 
     def heads(self, name):
@@ -185,12 +184,12 @@ class Reader:
 
 def main():
     reader = Reader()
-    for reader.line, line in enumerate(read(DOCUMENT).splitlines(), 1):
+    for reader.line, line in enumerate(read_text(DOCUMENT).splitlines(), 1):
         reader.read(re.split(r"(?<!\\)\|", line)[-2] if line.startswith("|") else line)
     edits = [path.split("/") for path in sorted(glob.glob("crates/*/must-fail/*.edit"))]
     names = [f"{crate}/{os.path.splitext(file)[0]}" for _, crate, _, file in edits]
     faults = reader.faults + [f"{DOCUMENT} does not name the must-fail edit `{name}`" for name in names if name not in reader.edits]
-    faults += [f"only one of `test` and {FAULTS} names the mutant `{name}`" for name in sorted(reader.sources.mutants ^ set(re.findall(r'\("(\w+)", Fault::', read(FAULTS))))]
+    faults += [f"only one of `test` and {FAULTS} names the mutant `{name}`" for name in sorted(reader.sources.mutants ^ set(re.findall(r'\("(\w+)", Fault::', read_text(FAULTS))))]
     faults += [f"{DOCUMENT} does not name the mutant `{name}`" for name in sorted(reader.sources.mutants - reader.mutants)]
     for fault in faults:
         print(fault)
