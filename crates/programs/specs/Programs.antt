@@ -21,14 +21,15 @@ module _ (step : ProgressView → List ℕ → List ℕ → StepReply) (most : �
   WentOn s [] = Unit {0}
   WentOn s (piece ∷ rest) = (length piece ≤ most) × (stepOn step s piece .goesOn ≡ true) × WentOn (afterStep step s piece) rest
 
-  -- why it does not go on: a step on what it read stops it ("stop at a refusal", or the records have ended), or a read or a write failed
+  -- how it says that it ended: a step stops it ("stop at a refusal", or the records have ended), of which the step is shown; or a read or a write
+  -- failed, of which nothing can be shown, since the C library's contracts do not say what is read and written
   abbrev pub Ends : Running → Going → Type 0
   Ends s On = ⊥
   Ends s Stopped = (piece : List ℕ) × (length piece ≤ most) × (stepOn step s piece .goesOn ≡ false)
   Ends s NotRead = Unit {0}
   Ends s NotWritten = Unit {0}
 
-  -- what a program did with this output from its beginning on: the reads on which it took a step that went on, why it ended behind them, and at which record
+  -- what a program did with this output from its beginning on: reads on each of which a step goes on, how it says that it ended behind them, and at which record
   pub record Runs (out : List ℕ) (r : Run) : Type 0 where
     pub reads : List (List ℕ)
     pub went : WentOn (startedOn out) reads
