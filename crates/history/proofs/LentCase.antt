@@ -4,7 +4,7 @@ use mathlib.Core.Path.{_≡_, refl, sym, ap}
 use mathlib.Core.Bool.{false, false≢true}
 use mathlib.Core.List.{List, [], _∷_, _++_, map}
 use native.Mathlib.Omega.{arith}
-use lib.ListN.{length, getD, replicate}
+use lib.ListN.{length, getD, drop, replicate}
 use Rattle.column.specs.declared.Column.{Column}
 use Rattle.column.specs.declared.Column.the-variants as column
 use Rattle.column.specs.declared.Found.{Found}
@@ -13,17 +13,20 @@ use Rattle.column.specs.Columns.{columnLimit, SpareEmpty, emptySlot}
 use Rattle.render.specs.declared.types.DashStyle.the-variants.{Persistent}
 use Rattle.render.specs.declared.types.LinkLinePlacement.the-variants.{Top}
 use Rattle.render.specs.declared.types.Options.{Options}
-use Rattle.render.specs.Refusals.{noColumnLeft}
+use Rattle.render.specs.declared.render.Ancestor.the-variants as entry
+use Rattle.render.specs.declared.render.Entry.{Entry}
+use Rattle.render.specs.Refusals.{noColumnLeft, nodeLineTooWide}
 use Rattle.shaper.specs.declared.Shaper.{Shaper}
 use Rattle.shaper.specs.declared.Answer.{Answer}
 use Rattle.shaper.specs.Shaper.{reserve, isNothing, fresh, Fresh}
 use Rattle.placing.specs.Placing.{place}
 use Rattle.row_shape.specs.Row.{row}
+use Rattle.preview.specs.declared.PreviewAnswer.{PreviewAnswer}
 use Rattle.width.specs.declared.NewNode.the-variants.{Node, Absent}
 use Rattle.width.specs.Width.{width}
 use Rattle.marked.specs.Marked.{m7-row}
 use Rattle.lineage.specs.declared.ShapeAnswer.{ShapeAnswer}
-use Rattle.lineage.specs.Promises.{LentReserves, LentWidth}
+use Rattle.lineage.specs.Promises.{LentReserves, LentPreview, LentWidth}
 use Rattle.history.specs.LentCalls.{LentCall, ReserveRan, RowRan, Met, Ran}
 
 -- "height 1 without staggering", Persistent, Top (01, "Added by us")
@@ -162,3 +165,50 @@ width-with-node = refl
 pub width-with-held-node : LentWidth reserved (Node 9) [] (record { refusal = 0; width = 1 })
 unfolding width
 width-with-held-node = refl
+
+-- ---- previews
+
+-- what a preview gives: the refusal's number, column and width, and the columns of a shaper
+abbrev pub showing : ℕ → ℕ → ℕ → Shaper → PreviewAnswer
+showing n c w s = record { refusal = n; «node_column» = c; width = w; slots = s .slots; count = s .count }
+
+-- "Column 0 holds Parent 7: .. row 7 (Parent 7, Parent 8)" (01, M10)
+abbrev pub m10-shaper : Shaper
+m10-shaper = holding (column.Parent 7 ∷ []) (At 0)
+
+abbrev pub m10-entries : List Entry
+m10-entries = record { ancestor = entry.Parent 7 } ∷ record { ancestor = entry.Parent 8 } ∷ []
+
+-- the columns after it
+abbrev pub m10-after : Shaper
+m10-after = holding (column.Parent 7 ∷ column.Parent 8 ∷ []) (At 0)
+
+-- its node line has 2 cells
+pub m10-previewed : LentPreview m10-shaper 7 m10-entries (showing 0 0 2 m10-after)
+unfolding row place
+m10-previewed =
+    record { reply = refl; refused = λ z. absurd (z refl); fits = λ z. omega arith; rest = λ z. spare-empty (column.Parent 7 ∷ column.Parent 8 ∷ []) 62 }
+
+-- 64 columns, the first of them Parent 0
+abbrev pub full-after : Shaper
+full-after = holding (column.Parent 0 ∷ drop 1 (reservedBelow columnLimit)) (At 0)
+
+-- with 64 columns taken, row 0 (Parent 0) finds its own
+pub full-previewed : LentPreview full 0 (record { ancestor = entry.Parent 0 } ∷ []) (showing 0 0 64 full-after)
+unfolding row place
+full-previewed =
+    record { reply = refl; refused = λ z. absurd (z refl); fits = λ z. omega arith; rest = λ z. spare-empty (column.Parent 0 ∷ drop 1 (reservedBelow columnLimit)) 0 }
+
+-- a shaper with its count set by hand
+abbrev pub counting : ℕ → Shaper → Shaper
+counting n s = record { slots = s .slots; count = n; «previous_node_column» = s .«previous_node_column»; options = s .options }
+
+-- 64 columns taken, and a count above them
+abbrev pub beyond : Shaper
+beyond = counting 65 full
+
+-- "node line would have more than 64 cells" (01, the table): column 0, width 0, and the columns as they are, the count above 64 too
+pub beyond-refused : LentPreview beyond 64 [] (showing nodeLineTooWide 0 0 beyond)
+unfolding row place
+beyond-refused =
+    record { reply = refl; refused = λ z. (refl, refl); fits = λ z. absurd (omega (arith, z)); rest = λ z. absurd (omega (arith, z)) }

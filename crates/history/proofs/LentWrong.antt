@@ -1,18 +1,20 @@
 -- The promises of the lent calls are false of wrong answers: answers shown right in LentCase or LentTextCase, with one thing changed; where a refusal is what is wrong,
--- its number and the shaper that it leaves. Quoted words are 01's.
-use Prim.Native.Nat.{ℕ}
-use mathlib.Core.Path.{_≡_, ap}
-use mathlib.Core.List.{List, []}
+-- its number and the shaper that it leaves. Quoted words are 01's, or 02's where that is said.
+use Prim.Native.Nat.{ℕ, _≤_}
+use mathlib.Core.Path.{_≡_, refl, ap}
+use mathlib.Core.List.{List, [], _∷_}
 use mathlib.Core.Option.{Option, some, Option·some-injective}
 use native.Mathlib.Omega.{arith}
 use lib.ListN.{length, getD, set}
 use Rattle.column.specs.declared.Found.the-variants.{At}
 use Rattle.column.specs.Columns.{rank, idOf, emptySlot}
-use Rattle.render.specs.Refusals.{noColumnLeft}
+use Rattle.render.specs.declared.render.Ancestor.the-variants as entry
+use Rattle.render.specs.Refusals.{noColumnLeft, nodeLineTooWide}
 use Rattle.shaper.specs.declared.Shaper.{Shaper}
 use Rattle.shaper.specs.Shaper.{Reply, reserve, fresh, reservedSlot}
 use Rattle.placing.specs.Placing.{place}
 use Rattle.row_shape.specs.Row.{RowReply, row}
+use Rattle.preview.specs.Preview.{PreviewReply}
 use Rattle.width.specs.declared.NewNode.the-variants.{Node, Absent}
 use Rattle.width.specs.declared.WidthAnswer.{WidthAnswer}
 use Rattle.width.specs.Width.{width}
@@ -20,9 +22,9 @@ use Rattle.glyphs.specs.Cells.{choiceOf, bytesOf}
 use Rattle.output.specs.declared.TextState.{TextState}
 use Rattle.text.specs.Text.{TextReply, textWith}
 use Rattle.lineage.specs.declared.LengthAnswer.{LengthAnswer}
-use Rattle.lineage.specs.Promises.{LentReserves, LentRows, LentWidth}
+use Rattle.lineage.specs.Promises.{LentReserves, LentRows, LentPreview, LentWidth}
 use Rattle.history.specs.LentCalls.{TextRun, TextRan, Met}
-use Rattle.history.proofs.LentCase.{options, holding, reserved, m7-answer, full, last-empty}
+use Rattle.history.proofs.LentCase.{options, holding, reserved, m7-answer, full, last-empty, showing, m10-shaper, m10-entries, m10-after, full-after, counting, beyond}
 use Rattle.history.proofs.LentTextCase.{row-entries, row-answer, after-text, at-end, too-many, too-many-answer, too-short, flushing}
 
 -- a shaper whose slot i has been made to hold the id n as reserved, and nothing else been changed
@@ -98,6 +100,35 @@ not-absent-node-counted k = let z : _≡_ {A = ℕ} 1 0 = ap (λ (a : WidthAnswe
 pub not-width-invented : LentWidth reserved (Node 9) [] (record { refusal = 0; width = 2 }) → ⊥
 unfolding width
 not-width-invented k = let z : _≡_ {A = ℕ} 2 1 = ap (λ (a : WidthAnswer). a .width) k in omega arith
+
+-- ---- previews
+
+-- a preview with the width call's figure, which M10 has as 1 (right: LentCase.m10-previewed)
+pub not-the-width-calls-figure : LentPreview m10-shaper 7 m10-entries (showing 0 0 1 m10-after) → ⊥
+unfolding row place
+not-the-width-calls-figure k = let z : _≡_ {A = ℕ} 1 2 = ap (λ (a : PreviewReply). a .width) (k .reply) in omega arith
+
+-- "columns afterwards" (02, R-1): a preview that gives the columns before the row (right: LentCase.m10-previewed)
+pub not-preview-of-the-columns-before : LentPreview m10-shaper 7 m10-entries (showing 0 0 2 m10-shaper) → ⊥
+unfolding row place
+not-preview-of-the-columns-before k = let z : _≡_ {A = ℕ} 1 2 = ap (λ (a : PreviewReply). length (a .columns)) (k .reply) in omega arith
+
+-- a preview that leaves an id behind the columns (right: LentCase.m10-previewed)
+pub not-preview-stored-behind : LentPreview m10-shaper 7 m10-entries (showing 0 0 2 (stored m10-after 2 4)) → ⊥
+not-preview-stored-behind k = let z : _≡_ {A = ℕ} 2 0 = ap rank (k .rest refl 2 (omega arith)) in omega arith
+
+-- a preview that counts one column more than the 64 that it shows, though a count of 65 is read as 64 (right: LentCase.full-previewed)
+pub not-preview-counted-beyond : LentPreview full 0 (record { ancestor = entry.Parent 0 } ∷ []) (showing 0 0 64 (counting 65 full-after)) → ⊥
+not-preview-counted-beyond k = let z : 65 ≤ 64 = k .fits refl in omega (arith, z)
+
+-- a refused preview that shows a column (right: LentCase.beyond-refused)
+pub not-refused-preview-shown : LentPreview beyond 64 [] (showing nodeLineTooWide 1 0 beyond) → ⊥
+unfolding row place
+not-refused-preview-shown k = let z : _≡_ {A = ℕ} 1 0 = ap (λ (a : PreviewReply). a .column) (k .reply) in omega arith
+
+-- a refused preview that gives another count than the shaper's, though both are read as 64 (right: LentCase.beyond-refused)
+pub not-refused-preview-counted : LentPreview beyond 64 [] (showing nodeLineTooWide 0 0 full) → ⊥
+not-refused-preview-counted k = let z : _≡_ {A = ℕ} 64 65 = k .refused (λ e. omega (arith, e)) .1 in omega arith
 
 -- ---- texts
 

@@ -1,2 +1,3 @@
 pub mod LocalLaws
 pub mod FrontLaws
+pub mod ReadLaws

@@ -2,10 +2,11 @@
 ghost use Prim.Native.Nat.{_≤_, min};
 ghost use mathlib.Core.Path.{_≡_};
 ghost use lib.ListN.{take};
-ghost use Rattle.lineage.specs.Promises.{LentReserves, LentRows, LentWidth, LentTexts};
+ghost use Rattle.lineage.specs.Promises.{LentReserves, LentRows, LentPreview, LentWidth, LentTexts};
 ghost use Rattle.lent.specs.Inner.{listLimit};
 use glyphs::Renderer;
 use output::TextState;
+use preview::PreviewAnswer;
 use render::Entry;
 use row_shape::RowAnswer;
 use shaper::Answer;
@@ -54,6 +55,26 @@ pub fn row_on(shaper: Shaper, node: u32, list: [Entry; LIST_LIMIT], count: usize
     ensures { λ r. ⌜ LentRows shaper node (take count list) (r .shaper) (record { refusal = r .refusal; shape = r .shape }) ⌝ }
 {
     row_with(shaper, node, list, taken(count))
+}
+
+// The preview of a row on a shaper of its own and the first entries of a list.
+fn preview_with(shaper: Shaper, node: u32, list: [Entry; LIST_LIMIT], count: usize) -> PreviewAnswer
+    requires { ⌜ count ≤ listLimit ⌝ }
+    ensures { λ r. ⌜ LentPreview shaper node (take count list) r ⌝ }
+{
+    lineage::preview(&shaper, node, &list[..count])
+}
+
+// The preview of a row on a shaper of its own and the first entries of a list, as many as it has at most.
+pub fn preview_on(
+    shaper: Shaper,
+    node: u32,
+    list: [Entry; LIST_LIMIT],
+    count: usize,
+) -> PreviewAnswer
+    ensures { λ r. ⌜ LentPreview shaper node (take count list) r ⌝ }
+{
+    preview_with(shaper, node, list, taken(count))
 }
 
 // The width call on a shaper of its own and the first entries of a list.

@@ -14,6 +14,9 @@ use Rattle.shaper.specs.Shaper.{View, viewOf}
 use Rattle.row_shape.specs.declared.RowAnswer.{RowAnswer}
 use Rattle.row_shape.specs.Row.{RowReply, row}
 use Rattle.row_shape.specs.Promises.{Rows}
+use Rattle.preview.specs.declared.PreviewAnswer.{PreviewAnswer}
+use Rattle.preview.specs.Preview.{preview, previewOf}
+use Rattle.preview.specs.Promises.{Previews}
 use Rattle.width.specs.declared.NewNode.{NewNode}
 use Rattle.width.specs.declared.WidthAnswer.{WidthAnswer}
 use Rattle.width.specs.Width.{width}
@@ -25,7 +28,7 @@ use Rattle.output.specs.Output.{finish, TextView, textViewOf, textOf}
 use Rattle.text.specs.declared.graph_text_renderer.TextAnswer.{TextAnswer}
 use Rattle.text.specs.Text.{TextReply, textAnswer, textLines, textChecks, textAfter, textWith, text}
 use Rattle.text.specs.Promises.{Texts}
-use Rattle.lineage.specs.Promises.{ancestors, Copies, LentRows, LentWidth, LentTexts}
+use Rattle.lineage.specs.Promises.{ancestors, Copies, LentRows, LentPreview, LentWidth, LentTexts}
 
 -- whatever is the same for all lists that are too long is the same for a list and the one that its copy stands for
 capped-same : {A : Type 0} (f : List Ancestor → A) → ((a b : List Ancestor) → tooMany a ≡ true → tooMany b ≡ true → f a ≡ f b)
@@ -51,6 +54,16 @@ rowed s n l es r c h =
       refused = h .refused;
       fits = h .fits;
       options = h .options;
+      rest = h .rest;
+    }
+
+-- ---- preview
+pub previewed : (s : Shaper) (n : ℕ) (l : List Entry) (es : Entries) (r : PreviewAnswer) → Copies l es → Previews s n (listed es) r → LentPreview s n l r
+previewed s n l es r c h =
+    record {
+      reply = h .reply ∙ ap (preview (viewOf s) n) c ∙ ap previewOf (row-capped (viewOf s) n (ancestors l));
+      refused = h .refused;
+      fits = h .fits;
       rest = h .rest;
     }
 

@@ -11,6 +11,8 @@ use Rattle.render.specs.Entries.{listed, capped}
 use Rattle.shaper.specs.declared.Shaper.{Shaper}
 use Rattle.shaper.specs.Shaper.{viewOf, Reserves}
 use Rattle.row_shape.specs.Row.{RowReply, row}
+use Rattle.preview.specs.declared.PreviewAnswer.{PreviewAnswer}
+use Rattle.preview.specs.Promises.{Previews}
 use Rattle.width.specs.declared.NewNode.{NewNode}
 use Rattle.width.specs.declared.WidthAnswer.{WidthAnswer}
 use Rattle.width.specs.Width.{width}
@@ -45,6 +47,10 @@ pub record LentRows (s : Shaper) (n : ℕ) (l : List Entry) (s′ : Shaper) (r :
   pub fits : r .refusal ≡ 0 → s′ .count ≤ columnLimit
   pub options : s′ .options ≡ s .options
   pub rest : r .refusal ≡ 0 → SpareEmpty (s′ .count) (s′ .slots)
+
+-- the preview: what the by-value one promises, at the list itself
+abbrev pub LentPreview : Shaper → ℕ → List Entry → PreviewAnswer → Type 0
+LentPreview s n l r = Previews s n (ancestors l) r
 
 -- the width call gives what the definition says at the list itself
 abbrev pub LentWidth : Shaper → NewNode → List Entry → WidthAnswer → Type 0

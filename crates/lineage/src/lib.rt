@@ -1,6 +1,6 @@
-// The public calls: reserving, row, width and text in lent forms, each thin over its by-value core; the others are passed on as they are.
+// The public calls: reserving, row, preview, width and text in lent forms, each thin over its by-value core; the others are passed on as they are.
 ghost use Rattle.row_shape.specs.Promises.{Rows};
-ghost use Rattle.lineage.specs.Promises.{Copies, LentReserves, LentRows, LentWidth, LentTexts};
+ghost use Rattle.lineage.specs.Promises.{Copies, LentReserves, LentRows, LentPreview, LentWidth, LentTexts};
 use render::Entries;
 use row_shape::next_row_shape;
 use text::write_next_text;
@@ -16,9 +16,10 @@ pub use render::Style;
 pub use shaper::Answer;
 pub use shaper::Shaper;
 
-// What the row, width and text calls take and give.
+// What the row, preview, width and text calls take and give.
 pub use glyphs::Renderer;
 pub use output::TextState;
+pub use preview::PreviewAnswer;
 pub use render::Ancestor;
 pub use render::Cell;
 pub use render::Entry;
@@ -106,6 +107,14 @@ pub fn row(shaper: &mut Shaper, node: u32, entries: &[Entry]) -> ShapeAnswer
     let given = row_core(*shaper, node, copied);
     *shaper = given.shaper;
     given.answer
+}
+
+// The preview of a row on a lent shaper and a lent list of parent entries.
+pub fn preview(shaper: &Shaper, node: u32, entries: &[Entry]) -> PreviewAnswer
+    ensures { λ r. ⌜ LentPreview (now (shaper .entry)) node (now (entries .entry)) r ⌝ }
+{
+    let copied = copy_entries(entries);
+    preview::preview(*shaper, node, copied)
 }
 
 // The width call on a lent shaper and a lent list of parent entries.

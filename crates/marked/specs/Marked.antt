@@ -17,6 +17,7 @@ use Rattle.width.specs.declared.NewNode.the-variants.{Node}
 use Rattle.shaper.specs.Shaper.{View, Reply, newShaper, reserve}
 use Rattle.placing.specs.Placing.{place}
 use Rattle.row_shape.specs.Row.{RowReply, row}
+use Rattle.preview.specs.Preview.{PreviewReply, preview}
 use Rattle.width.specs.Width.{width}
 
 -- a new shaper with Persistent dashes and Top
@@ -194,6 +195,9 @@ m10-first = row plain 1 (Parent 7 ∷ [])
 abbrev pub m10-view : View
 m10-view = m10-first .view
 
+abbrev pub m10-preview : PreviewReply
+m10-preview = preview m10-view 7 (Parent 7 ∷ Parent 8 ∷ [])
+
 pub record M10 : Type 0 where
   pub made : new 1 false .refusal ≡ 0
   pub first : m10-first .refusal ≡ 0
@@ -202,10 +206,24 @@ pub record M10 : Type 0 where
   pub width : width m10-view (Node 7) (Parent 7 ∷ Parent 8 ∷ []) .width ≡ 1
   pub accepted : row m10-view 7 (Parent 7 ∷ Parent 8 ∷ []) .refusal ≡ 0
   pub cells : length (cellsOf (row m10-view 7 (Parent 7 ∷ Parent 8 ∷ []) .shape)) ≡ 2
+  -- "The width call keeps the Rust's figure, also where the preview differs (M10)." (02, R-1)
+  pub previewed : m10-preview .refusal ≡ 0
+  pub preview-width : m10-preview .width ≡ 2
 
 pub m10 : M10
 unfolding row place width
-m10 = record { made = refl; first = refl; columns = refl; width-accepted = refl; width = refl; accepted = refl; cells = refl }
+m10 =
+    record {
+      made = refl;
+      first = refl;
+      columns = refl;
+      width-accepted = refl;
+      width = refl;
+      accepted = refl;
+      cells = refl;
+      previewed = refl;
+      preview-width = refl;
+    }
 
 -- ready to stand under the single theorem with M1
 pub record Marked : Type 0 where

@@ -17,11 +17,11 @@ heightAboveLimit = 1
 abbrev pub noColumnLeft : ℕ
 noColumnLeft = 2
 
--- row, width, text: "more than 32 entries"
+-- row, width, text, and with R-1 of 02 preview: "more than 32 entries"
 abbrev pub tooManyEntries : ℕ
 tooManyEntries = 3
 
--- row, text: "node line would have more than 64 cells"
+-- row, text, and with R-1 of 02 preview: "node line would have more than 64 cells"
 abbrev pub nodeLineTooWide : ℕ
 nodeLineTooWide = 4
 

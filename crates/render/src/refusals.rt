@@ -9,10 +9,10 @@ pub const HEIGHT_ABOVE_LIMIT: u8 = 1;
 // Reserving: id not held, no Empty column, 64 columns.
 pub const NO_COLUMN_LEFT: u8 = 2;
 
-// Row, width, text: more than 32 entries.
+// Row, preview, width, text: more than 32 entries.
 pub const TOO_MANY_ENTRIES: u8 = 3;
 
-// Row, text: node line would have more than 64 cells.
+// Row, preview, text: node line would have more than 64 cells.
 pub const NODE_LINE_TOO_WIDE: u8 = 4;
 
 // Renderer, text: mark outside 21 to 7E.

@@ -11,7 +11,7 @@ use base.Logic.{SProp, ent, sep, emp, via, fst∗, id⊢}
 use base.Fml.{GName, Fml, ftrue, fat, flft, flent}
 use prog.Memory.{Memory}
 use prog.Routine.{Routine}
-use prog.Wp.{Heap, Calls, Loops, WpFn, Tables}
+use prog.Wp.{Heap, Calls, Loops, WpFn}
 use ghost.Atoms.{Atoms, sem}
 use contract.Monad.{Fun, fact}
 use contract.Running.{givenOf, tables, tablesOf}
@@ -20,7 +20,7 @@ use types.Run.{look, init, forget, stop, from, load, addr, of-opd, and-then, no-
 use types.Part.{agg}
 use types.SemTy.{Body}
 use types.Tokens.{lft-new, lft-end}
-use sound.WpLaws.{FmC, fmOf, WpFn-mono}
+use sound.WpLaws.{FmC, fmOf}
 use denote.Laws.{Is, shows}
 use denote.Memory.{mem}
 use denote.Plain.{uint-vals, uint-tells, uint-makes, uint-lawful}
@@ -31,9 +31,9 @@ use denote.Struct.Laws as LL
 use denote.Triple.Statement.{Contract, Triple}
 use denote.Triple.Call.{calls-at}
 use denote.Triple.Entry.{onEntry}
-use denote.Triple.Spec.{Meets, tripleOf}
-use denote.Triple.Table.{entered, cited}
-use denote.Triple.Walked.{says, Stays, stay-none, walkOf, AllGo, goes-none, Walks, ends-at, walked, walk-meets}
+use denote.Triple.Spec.{tripleOf}
+use denote.Triple.Table.{cited}
+use denote.Triple.Walked.{says, Stays, stay-none, walkOf, AllGo, goes-none, Walks, ends-at, walked}
 use denote.Triple.Clauses.{Lasts, ensured, lasts}
 use denote.Exit.{yes}
 use Rattle.shaper.specs.declared.Shaper.{Shaper}
@@ -43,6 +43,7 @@ use Rattle.shaper.proofs.Shaper as S
 use Rattle.shaper.proofs.Shaper.Laws as S′
 use Rattle.shaper.proofs.Answer as D
 use Rattle.shaper.proofs.Answer.Laws as D′
+use Rattle.lineage.proofs.WalkLaws.{entered-by}
 use Rattle.lent.proofs.LocalLaws.{at-local, IsThat, lends-local, local-back}
 use Rattle.lineage.proofs.reserve as call
 use Rattle.lineage.proofs.reserve.Symbol as call-def
@@ -133,16 +134,10 @@ module _ {M : Type 1} (𝓤 : URA M) (H : Heap 𝓤) (A : Atoms 𝓤) (W : Given
   goes : AllGo 𝓤 H A W 0 (self.signature .params) (self.ended .kept) stayed
   goes = (goes-none 𝓤 H A W 0 (λ _. S.the-row) yes (λ κs x f. refl), (goes-none 𝓤 H A W 0 (λ _. u32) yes (λ κs x f. refl), tt))
 
-self-meets : {M : Type 1} (𝓤 : URA M) (H : Heap 𝓤) (A : Atoms 𝓤) (W : Given 𝓤 H A) (at-mem : Memory → SProp 𝓤) (run : Routine → Fun 𝓤) (𝓣 : Tables 𝓤 H)
-    → Triple 𝓤 (𝓣 .C #lineage·reserve) (Lent 𝓤 H A at-mem run)
-    → Meets 𝓤 H A self.signature (WpFn 𝓤 H (𝓣 .C) (𝓣 .Λ) code.function) (self.spec 𝓤 H A at-mem run)
-self-meets 𝓤 H A W at-mem run 𝓣 known = walk-meets 𝓤 H A self.ended stayed W (goes 𝓤 H A W at-mem run) (self.clauses 𝓤 H A at-mem run) (WpFn 𝓤 H (𝓣 .C) (𝓣 .Λ) code.function) (WpFn-mono 𝓤 H (W .laws) 𝓣 code.function)
-    (self-walks 𝓤 H A W at-mem run (𝓣 .C) (𝓣 .Λ) (fmOf 𝓤 H (W .laws) 𝓣) known)
-
 pub reserve-on-spec : {M : Type 1} → stated.statement M
 unfolding code.routine tablesOf
 reserve-on-spec 𝓤 H 𝓜 𝓖 𝓡 =
-    entered 𝓤 H (tripleOf 𝓤 H (𝓖 .A) self.signature (self.spec 𝓤 H (𝓖 .A) (𝓜 .mem) (𝓡 .run)))
-    (tables 𝓤 H 𝓜 𝓡 code.env .C) (tables 𝓤 H 𝓜 𝓡 code.env .Λ) #lent·reserve-on code.function (code.unfolded 𝓤 H 𝓜 𝓡)
-    (self-meets 𝓤 H (𝓖 .A) (givenOf 𝓤 H 𝓜 𝓖) (𝓜 .mem) (𝓡 .run) (tablesOf 𝓤 H 𝓜 (tables 𝓤 H 𝓜 𝓡 code.env))
+    let W : Given 𝓤 H (𝓖 .A) = givenOf 𝓤 H 𝓜 𝓖 in
+    entered-by 𝓤 H 𝓜 𝓖 𝓡 code.env #lent·reserve-on code.function (code.unfolded 𝓤 H 𝓜 𝓡) self.ended stayed (goes 𝓤 H (𝓖 .A) W (𝓜 .mem) (𝓡 .run)) (self.clauses 𝓤 H (𝓖 .A) (𝓜 .mem) (𝓡 .run))
+    (self-walks 𝓤 H (𝓖 .A) W (𝓜 .mem) (𝓡 .run) _ _ (fmOf 𝓤 H (W .laws) (tablesOf 𝓤 H 𝓜 (tables 𝓤 H 𝓜 𝓡 code.env)))
     (cited 𝓤 H (Lent 𝓤 H (𝓖 .A) (𝓜 .mem) (𝓡 .run)) 𝓜 𝓡 code.env #lineage·reserve call-def.routine code.calls-lineage·reserve (call-thm.met 𝓤 H 𝓜 𝓖 𝓡)))
