@@ -2,6 +2,7 @@
 
 use std::fmt::Debug;
 
+use crate::calls::Previewed;
 use crate::calls::Shape;
 use crate::calls::Shaper;
 use crate::calls::TextState;
@@ -41,6 +42,10 @@ fn lines(machine: &Machine, answer: &Answer, out: &mut Vec<u8>) {
             shape(out, &machine.shape);
             shaper(out, &machine.shaper);
         }
+        Answer::Preview(number, previewed) => {
+            preview(out, *number, previewed);
+            shaper(out, &machine.shaper);
+        }
         Answer::Width(number, width) => line(out, &format!("width {number} {width}")),
         Answer::Renderer(number, written) => {
             line(out, &format!("renderer {number} {}", written.length));
@@ -77,21 +82,37 @@ fn line_with_bytes(out: &mut Vec<u8>, head: &str, bytes: &[u8]) {
     out.push(b'\n');
 }
 
+/// A preview's line.
+fn preview(out: &mut Vec<u8>, number: u8, previewed: &Previewed) {
+    let text = format!(
+        "preview {number} {} {}{}",
+        previewed.column,
+        previewed.width,
+        columns(&previewed.columns),
+    );
+    line(out, &text);
+}
+
 /// The shaper's line.
 fn shaper(out: &mut Vec<u8>, shaper: &Shaper) {
     let options = shaper.options();
     let style = options.graph_row_shape_style;
     let previous = shaper.previous_node_column();
     let text = format!(
-        "shaper height={} stagger={} dash={:?} placement={:?} previous={} columns={}",
+        "shaper height={} stagger={} dash={:?} placement={:?} previous={}{}",
         options.min_row_height,
         yes(options.stagger_consecutive_disconnected_nodes),
         style.dash_style,
         style.link_line_placement,
         previous.map_or("none".to_owned(), |column| column.to_string()),
-        joined(shaper.columns(), column),
+        columns(shaper.columns()),
     );
     line(out, &text);
+}
+
+/// The live columns, as a line ends in them.
+fn columns(live: &[Column<u32>]) -> String {
+    format!(" columns={}", joined(live, column))
 }
 
 /// A column by name.

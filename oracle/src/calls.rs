@@ -1,6 +1,7 @@
 //! The calls: the crate's own functions behind document 01's refusals. Each takes the state before and gives the state after, so that a refusal changes nothing.
 
 use crate::codes;
+use crate::column::Column;
 use crate::column::ColumnsExt;
 use crate::output::OutputRendererState;
 use crate::pipeline::graph_text_renderer::GraphTextRenderer;
@@ -87,6 +88,13 @@ pub struct Shape {
     pub width: u64,
 }
 
+/// What a preview tells of a row: the node's column, the cells of its node line, and the columns afterwards.
+pub struct Previewed {
+    pub column: usize,
+    pub width: u64,
+    pub columns: Vec<Column<u32>>,
+}
+
 /// What an accepted text call leaves behind.
 pub struct Written {
     pub shaper: Shaper,
@@ -132,6 +140,25 @@ pub fn row(shaper: &Shaper, row: &Row) -> Result<(Shaper, Shape), Refusal> {
     refusals::node_line(shape.node_line.len())?;
     let width = shape.node_line.len() as u64;
     Ok((after, Shape { row: shape, width }))
+}
+
+/// The preview call: the row call on a copy of the shaper.
+pub fn preview(shaper: &Shaper, call: &Row) -> Result<Previewed, Refusal> {
+    let (after, shape) = row(shaper, call)?;
+    Ok(Previewed {
+        column: shape.row.node_column,
+        width: shape.width,
+        columns: after.columns().clone(),
+    })
+}
+
+/// What a refused preview gives: the columns as they are.
+pub fn blank_preview(shaper: &Shaper) -> Previewed {
+    Previewed {
+        column: 0,
+        width: 0,
+        columns: shaper.columns().clone(),
+    }
 }
 
 /// The width call; node and entries may be absent.

@@ -100,7 +100,7 @@ impl Findings {
         for (letter, count) in &self.counts.calls {
             println!("calls {} {count}", char::from(*letter));
         }
-        for letter in *b"WVT" {
+        for letter in *b"WBVT" {
             let count = |length: &usize| self.counts.of_length(letter, *length);
             let lengths: Vec<_> = lengths::COUNTS
                 .iter()

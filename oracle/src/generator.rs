@@ -7,6 +7,7 @@ mod growing;
 mod hand_made;
 mod histories;
 mod long_lists;
+mod previews;
 mod record_calls;
 mod values;
 
@@ -29,13 +30,13 @@ pub use histories::history;
 /// What the commands of a list are mostly about, as weights of the letters in `ALL_LETTERS`.
 type Theme = [u64; ALL_LETTERS.len()];
 
-/// The themes, each with its own weight. The letters are N R W V P T D S Q H X.
+/// The themes, each with its own weight. The letters are N R W B V P T D S Q H X.
 const THEMES: [(u64, Theme); 5] = [
-    (40, [3, 8, 24, 8, 10, 8, 0, 2, 1, 1, 2]),
-    (30, [1, 4, 2, 1, 1, 30, 0, 1, 2, 0, 1]),
-    (10, [0, 0, 1, 0, 12, 0, 0, 0, 0, 10, 0]),
-    (5, [0, 0, 0, 0, 0, 1, 20, 0, 0, 0, 0]),
-    (15, [1, 1, 1, 1, 1, 1, 1, 1, 1, 1, 1]),
+    (40, [3, 8, 24, 8, 8, 10, 8, 0, 2, 1, 1, 2]),
+    (30, [1, 4, 2, 2, 1, 1, 30, 0, 1, 2, 0, 1]),
+    (10, [0, 0, 1, 0, 0, 12, 0, 0, 0, 0, 10, 0]),
+    (5, [0, 0, 0, 0, 0, 0, 1, 20, 0, 0, 0, 0]),
+    (15, [1, 1, 1, 1, 1, 1, 1, 1, 1, 1, 1, 1]),
 ];
 
 /// How seldom a list of thousands of calls comes, and at which places of so many lists.
@@ -44,7 +45,7 @@ const LONG_HISTORY: u32 = 150;
 const NEARLY_FULL: u32 = 400;
 
 /// The theme of a list of lone rows, between which separators stand.
-const LONE_THEME: Theme = [1, 1, 2, 1, 1, 24, 0, 1, 6, 0, 1];
+const LONE_THEME: Theme = [1, 1, 2, 2, 1, 1, 24, 0, 1, 6, 0, 1];
 
 /// A list in the making, with the machine that it has led to.
 struct Generator<'a> {
@@ -164,7 +165,7 @@ impl<'a> Generator<'a> {
     /// Opens with a shaper, and perhaps a text state, set by hand; gives how many commands follow.
     fn hand_made_opening(&mut self, least: u64, most: u64) -> u64 {
         let shaper = self.hand_shaper();
-        self.push(Command::Shaper(shaper));
+        self.set_shaper(shaper);
         if self.random.once_in(2) {
             let state = self.hand_state();
             self.push(Command::State(state));
@@ -187,7 +188,7 @@ impl<'a> Generator<'a> {
     /// Opens with 60 to 64 columns set by hand; gives how many commands follow.
     fn wide_opening_by_hand(&mut self, least: u64, most: u64) -> u64 {
         let shaper: HandShaper = self.wide_shaper();
-        self.push(Command::Shaper(shaper));
+        self.set_shaper(shaper);
         self.random.from(least, most)
     }
 
@@ -201,9 +202,20 @@ impl<'a> Generator<'a> {
         self.random.from(least, most)
     }
 
-    /// Adds one command of the list's theme.
+    /// Adds a shaper set by hand, and now and then a preview on it.
+    fn set_shaper(&mut self, shaper: HandShaper) {
+        self.push(Command::Shaper(shaper));
+        if self.random.once_in(4) {
+            self.preview_and_follow();
+        }
+    }
+
+    /// Adds one command of the list's theme; a call of the same row may follow a preview.
     fn command(&mut self) {
         let letter = ALL_LETTERS[self.random.weighted(&self.theme)];
+        if letter == b'B' {
+            return self.preview_and_follow();
+        }
         let command = self.command_of(letter);
         self.push(command);
     }
@@ -214,6 +226,7 @@ impl<'a> Generator<'a> {
             b'N' => Command::New(self.options()),
             b'R' => Command::Reserve(self.id()),
             b'W' => Command::Row(self.row()),
+            b'B' => Command::Preview(self.preview()),
             b'V' => Command::Width(self.width()),
             b'P' => Command::Renderer(self.drawing_of_shape()),
             b'T' => Command::Text(self.text()),
@@ -266,9 +279,16 @@ impl<'a> Generator<'a> {
 
     /// A text call.
     fn text(&mut self) -> Text {
+        let drawing = self.drawing();
+        let row = self.row();
+        self.text_of(drawing, row)
+    }
+
+    /// A text call of this row with this renderer and mark; the output's length is chosen here.
+    fn text_of(&mut self, drawing: Drawing, row: Row) -> Text {
         let mut text = Text {
-            drawing: self.drawing(),
-            row: self.row(),
+            drawing,
+            row,
             message: self.message(),
         };
         let need = self.machine.text_need(&text);

@@ -10,7 +10,7 @@ use crate::stream::Row;
 use crate::stream::Text;
 use crate::stream::Width;
 
-/// How many entries a row, a width and a text call have.
+/// How many entries a row, a preview, a width and a text call have.
 pub const COUNTS: [usize; 6] = [0, 1, 31, 32, 33, 1000];
 
 /// The node of each call.
@@ -41,7 +41,7 @@ fn anonymous(_place: u32) -> Entry {
     Entry::default()
 }
 
-/// A width, a row and a text call for each count, on new shapers.
+/// A width call, a preview, a row and a text call for each count, on new shapers.
 fn list(number: u32, entry: fn(u32) -> Entry) -> Vec<Command> {
     let mut machine = Machine::new(&Letters::all());
     let mut commands = vec![Command::List(number)];
@@ -50,7 +50,13 @@ fn list(number: u32, entry: fn(u32) -> Entry) -> Vec<Command> {
             node: NODE,
             entries: (0..count as u32).map(entry).collect(),
         };
-        let before = [new(), width(&row), Command::Row(row.clone()), new()];
+        let before = [
+            new(),
+            Command::Width(Width::of(row.clone())),
+            Command::Preview(row.clone()),
+            Command::Row(row.clone()),
+            new(),
+        ];
         for command in &before {
             machine.run(command);
         }
@@ -67,16 +73,6 @@ fn new() -> Command {
     Command::New(Options {
         height: 1,
         ..Options::default()
-    })
-}
-
-/// The width call with this row's node and entries.
-fn width(row: &Row) -> Command {
-    Command::Width(Width {
-        has_node: 1,
-        node: row.node,
-        has_entries: 1,
-        entries: row.entries.clone(),
     })
 }
 

@@ -3,6 +3,7 @@
 use std::collections::BTreeMap;
 
 use crate::calls;
+use crate::calls::Previewed;
 use crate::calls::Shape;
 use crate::calls::Shaper;
 use crate::calls::TextState;
@@ -31,6 +32,7 @@ pub enum Answer {
     New(u8),
     Reserve(u8),
     Row(u8),
+    Preview(u8, Previewed),
     Width(u8, u64),
     Renderer(u8, Output),
     Text(u8, Output, usize),
@@ -48,6 +50,7 @@ impl Answer {
             Answer::New(number)
             | Answer::Reserve(number)
             | Answer::Row(number)
+            | Answer::Preview(number, _)
             | Answer::Width(number, _)
             | Answer::Renderer(number, _)
             | Answer::Text(number, ..)
@@ -81,8 +84,8 @@ impl Output {
     }
 }
 
-/// How often each call was made, by its letter and refusal number, row, width and text calls also by how many entries they have, how
-/// many cells renderer calls drew, and the kinds of input.
+/// How often each call was made, by its letter and refusal number, row, preview, width and text calls also by how many entries they have,
+/// how many cells renderer calls drew, and the kinds of input.
 #[derive(Clone, Debug, Default)]
 pub struct Counts {
     pub calls: BTreeMap<u8, u64>,
@@ -192,6 +195,7 @@ impl Machine {
             Command::New(options) => self.new_shaper(options),
             Command::Reserve(id) => self.reserve(*id),
             Command::Row(row) => self.row(row),
+            Command::Preview(row) => self.preview(row),
             Command::Width(width) => self.width(width),
             Command::Renderer(drawing) => self.renderer(drawing),
             Command::Text(text) => self.text(text),
@@ -248,6 +252,13 @@ impl Machine {
             None => calls::blank_shape(),
         };
         Answer::Row(number)
+    }
+
+    /// Preview; it changes nothing.
+    fn preview(&self, row: &Row) -> Answer {
+        let (number, previewed) = split(calls::preview(&self.shaper, row));
+        let previewed = previewed.unwrap_or_else(|| calls::blank_preview(&self.shaper));
+        Answer::Preview(number, previewed)
     }
 
     /// Width.

@@ -1,5 +1,7 @@
 //! Document 01's marked rows M1 to M10 as lists, and a list about the stream format itself.
 
+use std::iter;
+
 use crate::machine::Machine;
 use crate::record_bytes;
 use crate::refusals;
@@ -24,14 +26,25 @@ const PARENT: u8 = 2;
 /// The code of a Parent column.
 const PARENT_COLUMN: u8 = 4;
 
-/// The lists of M1 to M10, numbered like these.
+/// The lists of M1 to M10, numbered like these; each row is previewed right before it is drawn.
 pub fn lists() -> Vec<Vec<Command>> {
     let cases = [m1(), m2(), m3(), m4(), m5(), m6(), m7(), m8(), m9(), m10()];
     cases
         .into_iter()
         .zip(1..)
-        .map(|(case, number)| [vec![Command::List(number)], case].concat())
+        .map(|(case, number)| {
+            let calls = case.into_iter().flat_map(previewed);
+            iter::once(Command::List(number)).chain(calls).collect()
+        })
         .collect()
+}
+
+/// A command, a row call with its preview in front of it.
+fn previewed(command: Command) -> Vec<Command> {
+    match &command {
+        Command::Row(row) => vec![Command::Preview(row.clone()), command],
+        _ => vec![command],
+    }
 }
 
 /// A merge and its two sides, by row and renderer calls, then as records.
@@ -110,7 +123,7 @@ fn m9() -> Vec<Command> {
     ]
 }
 
-/// Column 0 holds Parent 7, set by a row and by hand: the width is 1, the node line has 2 cells.
+/// Column 0 holds Parent 7, set by a row and by hand: the width call gives 1, the preview and the row 2 cells.
 fn m10() -> Vec<Command> {
     let entries = [(PARENT, 7), (PARENT, 8)];
     vec![
@@ -144,22 +157,22 @@ fn entries(pairs: &[(u8, u32)]) -> Vec<Entry> {
         .collect()
 }
 
-/// A row call.
-fn row(node: u32, pairs: &[(u8, u32)]) -> Command {
-    Command::Row(Row {
+/// The row with this node and these entries.
+fn row_of(node: u32, pairs: &[(u8, u32)]) -> Row {
+    Row {
         node,
         entries: entries(pairs),
-    })
+    }
+}
+
+/// A row call.
+fn row(node: u32, pairs: &[(u8, u32)]) -> Command {
+    Command::Row(row_of(node, pairs))
 }
 
 /// A width call with node and entries.
 fn width(node: u32, pairs: &[(u8, u32)]) -> Command {
-    Command::Width(Width {
-        has_node: 1,
-        node,
-        has_entries: 1,
-        entries: entries(pairs),
-    })
+    Command::Width(Width::of(row_of(node, pairs)))
 }
 
 /// An ASCII renderer call with mark `o` after these commands, its output just long enough.
@@ -226,8 +239,13 @@ pub fn format_list(number: u32) -> Vec<u8> {
                 0, 3, 4, 8,
             ],
         ),
+        (b'B', &[1, 0, 0, 0, 2, 0, 2]),
         (b'W', &[1, 0, 0, 0, 2, 0, 2]),
         (b'W', &[8, 0, 0, 0, 33]),
+        (b'B', &[8, 0, 0, 0, 33]),
+        (b'B', &[]),
+        (b'B', &[3, 0, 0, 0, 1, 0, 2, 9, 0, 0, 0, 77]),
+        (b'X', &[2, 0, 0, 0, b'B', 1, 0, 7]),
         (b'V', &[1]),
         (
             b'Q',

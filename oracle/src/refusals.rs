@@ -16,13 +16,14 @@ pub const RECORD_ENTRIES: u8 = 8;
 pub const RECORD_KIND: u8 = 2;
 /// The greatest refusal number.
 pub const LAST: u8 = 12;
-/// The refusals of each call of a generated list, by its letter, in document 01's order.
-pub const OF_CALLS: [(u8, &[u8]); 7] = [
+/// The refusals of each call of a generated list, by its letter, in document 01's order; a preview has those of its row.
+pub const OF_CALLS: [(u8, &[u8]); 8] = [
     (b'N', &[1]),
     (b'R', &[2]),
     (b'P', &[5, 12, 8]),
     (b'T', &[5, 6, 7, 3, 4, 8]),
     (b'W', &[3, 4]),
+    (b'B', &[3, 4]),
     (b'V', &[3]),
     (b'D', &[9, 10, 11]),
 ];

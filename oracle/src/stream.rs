@@ -1,7 +1,7 @@
 //! The call stream of docs/REPLAY.md. Each command's fields are walked in one place, in the order of its payload; reading, writing, showing and shrinking are walks.
 
 /// All letters but `L`, which is always known.
-pub const ALL_LETTERS: &[u8] = b"NRWVPTDSQHX";
+pub const ALL_LETTERS: &[u8] = b"NRWBVPTDSQHX";
 
 /// The command letters that are built.
 #[derive(Clone, Debug)]
@@ -84,7 +84,7 @@ pub trait Fields: Clone + Default {
 }
 
 /// A parent entry: the code of its kind, and its id.
-#[derive(Clone, Debug, Default)]
+#[derive(Clone, Debug, Default, PartialEq, Eq)]
 pub struct Entry {
     pub kind: u8,
     pub id: u32,
@@ -129,8 +129,8 @@ impl Fields for Options {
     }
 }
 
-/// A row call.
-#[derive(Clone, Debug, Default)]
+/// A row call, or the preview of one.
+#[derive(Clone, Debug, Default, PartialEq, Eq)]
 pub struct Row {
     pub node: u32,
     pub entries: Vec<Entry>,
@@ -144,12 +144,24 @@ impl Fields for Row {
 }
 
 /// A width call.
-#[derive(Clone, Debug, Default)]
+#[derive(Clone, Debug, Default, PartialEq, Eq)]
 pub struct Width {
     pub has_node: u8,
     pub node: u32,
     pub has_entries: u8,
     pub entries: Vec<Entry>,
+}
+
+impl Width {
+    /// The width call with this row's node and entries.
+    pub fn of(row: Row) -> Self {
+        Self {
+            has_node: 1,
+            node: row.node,
+            has_entries: 1,
+            entries: row.entries,
+        }
+    }
 }
 
 impl Fields for Width {
@@ -308,6 +320,7 @@ pub enum Command {
     New(Options),
     Reserve(u32),
     Row(Row),
+    Preview(Row),
     Width(Width),
     Renderer(Drawing),
     Text(Text),
@@ -327,6 +340,7 @@ impl Command {
             Command::New(_) => b'N',
             Command::Reserve(_) => b'R',
             Command::Row(_) => b'W',
+            Command::Preview(_) => b'B',
             Command::Width(_) => b'V',
             Command::Renderer(_) => b'P',
             Command::Text(_) => b'T',
@@ -339,10 +353,10 @@ impl Command {
         }
     }
 
-    /// The entries of a row, a width or a text call, unless they are absent.
+    /// The entries of a row, a preview, a width or a text call, unless they are absent.
     pub fn entries(&self) -> Option<&[Entry]> {
         match self {
-            Command::Row(row) => Some(&row.entries),
+            Command::Row(row) | Command::Preview(row) => Some(&row.entries),
             Command::Width(width) if width.has_entries != 0 => Some(&width.entries),
             Command::Text(text) => Some(&text.row.entries),
             _ => None,
@@ -356,6 +370,7 @@ impl Command {
             b'N' => Command::New(Options::default()),
             b'R' => Command::Reserve(0),
             b'W' => Command::Row(Row::default()),
+            b'B' => Command::Preview(Row::default()),
             b'V' => Command::Width(Width::default()),
             b'P' => Command::Renderer(Drawing::default()),
             b'T' => Command::Text(Text::default()),
@@ -374,7 +389,7 @@ impl Command {
             Command::List(number) => walk.u32("number", number),
             Command::New(options) => options.walk(walk),
             Command::Reserve(id) => walk.u32("id", id),
-            Command::Row(row) => row.walk(walk),
+            Command::Row(row) | Command::Preview(row) => row.walk(walk),
             Command::Width(width) => width.walk(walk),
             Command::Renderer(drawing) => drawing.walk(walk),
             Command::Text(text) => text.walk(walk),

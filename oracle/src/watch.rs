@@ -1,5 +1,6 @@
 //! Tells which kinds of input the calls of a list are, from each call, the states before it and its answer.
 
+mod previews;
 mod record_calls;
 
 use std::collections::BTreeMap;
@@ -18,6 +19,7 @@ use crate::stream::encode;
 use crate::stream::Command;
 use crate::stream::Repeat;
 use crate::stream::Row;
+use previews::Previews;
 
 /// A list with more calls is long.
 const LONG: usize = 160;
@@ -53,6 +55,7 @@ struct List {
     queued: Option<u64>,
     odd_bytes: Vec<(Kind, u8)>,
     lengths: Option<Lengths>,
+    previews: Previews,
 }
 
 /// A call that was made with each output length from 0 on: its bytes with length 0, the next length, and what it wrote in the last one.
@@ -106,13 +109,14 @@ impl Watch {
             (Command::Repeat(repeat), _) => self.repeat(repeat),
             _ => {}
         }
+        self.list.previews.watch(&mut self.kinds, command, answer);
         self.lengths(command, answer);
     }
 
     /// Whether the columns are nearly full.
     fn columns(&mut self, machine: &Machine, command: &Command) {
         let count = machine.shaper.columns().len();
-        if !b"RWVT".contains(&command.letter()) || !NEARLY_FULL.contains(&count) {
+        if !b"RWBVT".contains(&command.letter()) || !NEARLY_FULL.contains(&count) {
             return;
         }
         self.kinds.add(Kind::NearlyFull, count);
@@ -182,11 +186,13 @@ impl Watch {
         }
     }
 
-    /// A quiet repeat: whether record calls are in it.
+    /// A quiet repeat: whether record calls and previews are in it.
     fn repeat(&mut self, repeat: &Repeat) {
-        let is_record = |command: &Command| matches!(command, Command::Record(_));
-        if repeat.times > 0 && repeat.commands.iter().any(is_record) {
-            self.kinds.add(Kind::RecordRepeated, 0);
+        for (letter, kind) in [(b'D', Kind::RecordRepeated), (b'B', Kind::PreviewRepeated)] {
+            let has_letter = |command: &Command| command.letter() == letter;
+            if repeat.times > 0 && repeat.commands.iter().any(has_letter) {
+                self.kinds.add(kind, 0);
+            }
         }
     }
 
@@ -253,7 +259,7 @@ fn without_length(command: &Command) -> Vec<u8> {
 fn ids(command: &Command) -> Vec<u32> {
     let node = match command {
         Command::Reserve(id) => Some(*id),
-        Command::Row(row) => Some(row.node),
+        Command::Row(row) | Command::Preview(row) => Some(row.node),
         Command::Text(text) => Some(text.row.node),
         Command::Width(width) => Some(width.node),
         _ => None,
@@ -282,6 +288,7 @@ fn odd_bytes(machine: &Machine) -> Vec<(Kind, u8)> {
 fn broken_kind(command: &Command) -> Option<Kind> {
     match command {
         Command::Row(_) => Some(Kind::BrokenRow),
+        Command::Preview(_) => Some(Kind::BrokenPreview),
         Command::Renderer(_) => Some(Kind::BrokenRenderer),
         Command::Text(_) => Some(Kind::BrokenText),
         Command::Record(_) => Some(Kind::BrokenRecordCall),
@@ -292,7 +299,7 @@ fn broken_kind(command: &Command) -> Option<Kind> {
 /// The conditions of document 01's table that a call breaks, each taken by itself, in its order.
 fn broken(machine: &Machine, command: &Command) -> Vec<u8> {
     let checks = match command {
-        Command::Row(row) => vec![
+        Command::Row(row) | Command::Preview(row) => vec![
             refusals::entries(row.entries.len()),
             node_line(machine, row),
         ],

@@ -22,6 +22,7 @@ use column::Column;
 use column::Found;
 use column::Slot;
 use output::TextState;
+use preview::PreviewAnswer;
 use render::RowShape;
 use shaper::HEIGHT_LIMIT;
 use shaper::Shaper;
@@ -182,6 +183,22 @@ fn put_row(
     put_shaper(out, after, shaper)
 }
 
+// `preview REFUSAL COLUMN WIDTH columns=COLUMNS`, then the shaper.
+fn put_preview(
+    out: &mut Buffer,
+    printer: Printer,
+    preview: PreviewAnswer,
+    shaper: Shaper,
+) -> Printer {
+    let named = put_named(out, printer, b"preview ", preview.refusal as u64);
+    let column = put_named(out, named, b" ", preview.node_column as u64);
+    let width = put_named(out, column, b" ", preview.width as u64);
+    let slots = preview.slots;
+    let whole = put_columns(out, width, slots, preview.count);
+    let line = put(out, whole, b"\n");
+    put_shaper(out, line, shaper)
+}
+
 // `width REFUSAL WIDTH`
 fn put_width(out: &mut Buffer, printer: Printer, refusal: u8, width: u64) -> Printer {
     let line = put_named(out, printer, b"width ", refusal as u64);
@@ -247,6 +264,7 @@ pub(crate) fn put_reply(out: &mut Buffer, printer: Printer, page: &Page, reply: 
     let shape = state.shape;
     let text = state.text;
     let record = state.record;
+    let preview = state.preview;
     let answer = reply.answer;
     match answer {
         Answer::NotBuilt => put_not_built(out, printer),
@@ -254,6 +272,7 @@ pub(crate) fn put_reply(out: &mut Buffer, printer: Printer, page: &Page, reply: 
         Answer::New(refusal) => put_new(out, printer, refusal, shaper),
         Answer::Reserve(refusal) => put_reserve(out, printer, refusal, shaper),
         Answer::Row(refusal) => put_row(out, printer, refusal, shape, shaper),
+        Answer::Preview => put_preview(out, printer, preview, shaper),
         Answer::Width(refusal, width) => put_width(out, printer, refusal, width),
         Answer::Renderer(refusal, length, room) => {
             put_renderer(out, printer, refusal, length, page::output(page, room))

@@ -7,6 +7,7 @@ use crate::page::Page;
 use crate::page::Text;
 use lineage::RecordAnswer;
 use output::TextState;
+use preview::PreviewAnswer;
 use render::Options;
 use render::RowShape;
 use shaper::HEIGHT_LIMIT;
@@ -15,23 +16,25 @@ use shaper::Shaper;
 // The greatest length of a message in a payload.
 const MESSAGE: usize = 65535;
 
-// What the commands work on, and what the last record call gave.
+// What the commands work on, and what the last record call and the last preview gave.
 pub(crate) struct State {
     pub(crate) shaper: Shaper,
     pub(crate) shape: RowShape,
     pub(crate) text: TextState,
     pub(crate) record: RecordAnswer,
+    pub(crate) preview: PreviewAnswer,
 }
 
-// What a command answers, beside the state that it leaves. The calls give their refusal's number; the answer of a record call is in the
-// state. A renderer call and a text call leave their output on the page, and give the output's length last; in front of it, a text call
-// gives the measure.
+// What a command answers, beside the state that it leaves. The calls give their refusal's number; the answers of a record call and of a
+// preview are in the state. A renderer call and a text call leave their output on the page, and give the output's length last; in front
+// of it, a text call gives the measure.
 pub(crate) enum Answer {
     NotBuilt,
     List(u32),
     New(u8),
     Reserve(u8),
     Row(u8),
+    Preview,
     Width(u8, u64),
     Renderer(u8, u64, usize),
     Text(u8, u64, u64, usize),
@@ -50,7 +53,7 @@ pub(crate) struct Reply {
 
 impl State {
     // The state at the beginning of a stream or a list: the shaper is the one that a refused call gives, the shape, which a refused
-    // row gives too, the text state and the record are those of an empty payload.
+    // row gives too, the text state, the record and the preview are those of an empty payload.
     pub(crate) fn new() -> State {
         let graph_row_shape_style = codes::style(0, 0);
         let too_high = Options {
@@ -63,11 +66,13 @@ impl State {
         let shape = codes::shape(b"");
         let text = codes::text_state(b"");
         let record = lineage::next_record(b"");
+        let preview = previewed(b"", shaper);
         State {
             shaper,
             shape,
             text,
             record,
+            preview,
         }
     }
 }
@@ -122,6 +127,29 @@ fn row(payload: &[u8], state: State) -> Reply {
     let mut after = state;
     after.shaper = shaper;
     after.shape = shape;
+    Reply {
+        answer,
+        state: after,
+    }
+}
+
+// What the preview gives of the row that a payload holds.
+fn previewed(payload: &[u8], shaper: Shaper) -> PreviewAnswer {
+    lent::preview_on(
+        shaper,
+        input::u32_at(payload, 0),
+        codes::entries_at(payload, 4),
+        codes::entry_count(payload, 4),
+    )
+}
+
+// `B`: node (at 0), entries (4).
+fn preview(payload: &[u8], state: State) -> Reply {
+    let shaper = state.shaper;
+    let given = previewed(payload, shaper);
+    let mut after = state;
+    after.preview = given;
+    let answer = Answer::Preview;
     Reply {
         answer,
         state: after,
@@ -276,6 +304,7 @@ fn call(letter: u8, payload: &[u8], page: &mut Page, state: State) -> Reply {
         b'N' => new_shaper(payload, state),
         b'R' => reserve(payload, state),
         b'W' => row(payload, state),
+        b'B' => preview(payload, state),
         b'V' => width(payload, state),
         b'P' => render(payload, page, state),
         b'T' => text(payload, page, state),

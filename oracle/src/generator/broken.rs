@@ -4,6 +4,7 @@ use super::Generator;
 use crate::refusals;
 use crate::stream::Drawing;
 use crate::stream::Entry;
+use crate::stream::Row;
 use crate::stream::Text;
 
 /// The first id of entries that no column holds.
@@ -22,8 +23,15 @@ impl Generator<'_> {
         }
     }
 
-    /// Gives a text call some of what a call that draws may not have, a message that is too long or holds a wrong byte, and new entries,
-    /// as many as may be or one more, for which there may be no columns.
+    /// Gives a row new entries, as many as may be or one more, for which there may be no columns.
+    pub fn break_row(&mut self, row: &mut Row) {
+        let count = refusals::ENTRIES as u32 + self.random.below(2) as u32;
+        let entry = |id| Entry { kind: 2, id };
+        row.entries = (FRESH..FRESH + count).map(entry).collect();
+    }
+
+    /// Gives a text call some of what a call that draws may not have, a message that is too long or holds a wrong byte, and entries for
+    /// which there may be no columns.
     pub fn break_text(&mut self, text: &mut Text) {
         self.break_drawing(&mut text.drawing);
         if self.random.once_in(2) {
@@ -34,9 +42,7 @@ impl Generator<'_> {
             self.spoil(&mut text.message);
         }
         if self.random.once_in(2) {
-            let count = refusals::ENTRIES as u32 + self.random.below(2) as u32;
-            let entry = |id| Entry { kind: 2, id };
-            text.row.entries = (FRESH..FRESH + count).map(entry).collect();
+            self.break_row(&mut text.row);
         }
     }
 }

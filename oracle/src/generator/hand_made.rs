@@ -48,9 +48,10 @@ impl Generator<'_> {
         if self.random.once_in(5) {
             return self.wide_shaper();
         }
-        let count = match self.random.weighted(&[20, 4, 1]) {
+        let count = match self.random.weighted(&[20, 4, 2, 1]) {
             0 => self.random.below(7),
             1 => self.random.from(7, 20),
+            2 => self.random.from(21, 62),
             _ => self.random.pick(&[63, 64, 65, 66, 128, 1 << 32, u64::MAX]),
         };
         let slots = self.slots(count.min(70));

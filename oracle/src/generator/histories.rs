@@ -11,8 +11,8 @@ use crate::stream::Entry;
 use crate::stream::Letters;
 use crate::stream::Row;
 
-/// A history's weights of the letters N R W V P T D S Q H X.
-const THEME: Theme = [0, 2, 4, 0, 0, 3, 0, 0, 0, 0, 0];
+/// A history's weights of the letters N R W B V P T D S Q H X.
+const THEME: Theme = [0, 2, 4, 0, 0, 0, 3, 0, 0, 0, 0, 0];
 
 /// The history with this number: a new shaper, refused or not, then calls, refused ones among them.
 pub fn history(seed: u64, number: u32) -> Vec<Command> {

@@ -85,15 +85,14 @@ impl Generator<'_> {
         Row { node, entries }
     }
 
-    /// Draws a row by a text call, or by a row and a renderer call; a width call and a call with too short an output come now and then.
+    /// Draws a row by a text call, or by a row and a renderer call; a width call, a preview and a call with too short an output come now
+    /// and then.
     fn draw(&mut self, row: Row, by_text: bool) {
         if self.random.once_in(20) {
-            self.push(Command::Width(Width {
-                has_node: 1,
-                node: row.node,
-                has_entries: 1,
-                entries: row.entries.clone(),
-            }));
+            self.push(Command::Width(Width::of(row.clone())));
+        }
+        if self.random.once_in(20) {
+            self.push(Command::Preview(row.clone()));
         }
         if by_text {
             self.draw_by_text(row);
