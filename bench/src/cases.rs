@@ -1,4 +1,5 @@
-//! What is timed: the row call, the renderer call and the text call, in three renderers, with 1, 3, 8 and 40 lines open and three messages.
+//! What is timed: the row call, the preview, the renderer call and the text call, in three renderers, with 1, 3, 8 and 40 lines open and
+//! three messages.
 
 use crate::histories;
 use crate::ours;
@@ -16,7 +17,7 @@ pub const OUTPUT: usize = 64 * 1024;
 /// What a byte that nothing was written to holds.
 const UNWRITTEN: u8 = 0xa5;
 
-/// The call that is timed: the row call alone, the row and the renderer call, or the text call.
+/// The call that is timed: the row call or the preview alone, the row and the renderer call, or the text call.
 #[derive(Clone)]
 pub enum Call {
     Row { form: Form },
@@ -32,6 +33,7 @@ pub struct Case {
     records: Vec<u8>,
     rows: Vec<Row>,
     text: String,
+    previews: Vec<u8>,
     output: Vec<u8>,
 }
 
@@ -49,7 +51,12 @@ fn messages() -> [(&'static str, String); 3] {
 /// Every call with its name.
 pub fn calls() -> Vec<(String, Call)> {
     let mut calls = Vec::new();
-    for (name, form) in [("row", Form::Core), ("lent row", Form::Lent)] {
+    let forms = [
+        ("row", Form::Core),
+        ("lent row", Form::Lent),
+        ("preview", Form::Preview),
+    ];
+    for (name, form) in forms {
         calls.push((name.to_owned(), Call::Row { form }));
     }
     for (name, renderer) in RENDERERS {
@@ -88,6 +95,7 @@ impl Case {
             rows: rust::rows(&records),
             records,
             text: String::new(),
+            previews: Vec::new(),
             output: vec![UNWRITTEN; OUTPUT],
         }
     }
@@ -106,6 +114,9 @@ impl Case {
     /// The Rust's calls, from a new shaper on.
     pub fn rust(&mut self) {
         match &self.call {
+            Call::Row {
+                form: Form::Preview,
+            } => rust::previews(&self.rows, false, &mut self.previews),
             Call::Row { .. } => rust::shapes(&self.rows),
             Call::Lines { renderer } => {
                 rust::lines(&self.rows, *renderer, false, &mut self.text);
@@ -140,6 +151,14 @@ impl Case {
     fn expected(&mut self) -> (Vec<u8>, Vec<u8>) {
         let mut all = String::new();
         match &self.call {
+            Call::Row {
+                form: Form::Preview,
+            } => {
+                let mut all = Vec::new();
+                rust::previews(&self.rows, true, &mut all);
+                self.rust();
+                return (all, self.previews.clone());
+            }
             Call::Row { .. } => return (rust::shape_bytes(&self.rows), Vec::new()),
             Call::Lines { renderer } => rust::lines(&self.rows, *renderer, true, &mut all),
             Call::Text { renderer, message } => {
@@ -154,7 +173,7 @@ impl Case {
 /// Makes our call on every record, what it writes behind what it wrote before if it is kept, and gives the count of the rows drawn.
 fn drawn(call: &Call, records: &[u8], kept: bool, out: &mut [u8]) -> usize {
     match call {
-        Call::Row { form } => ours::shapes(*form, records, kept, out),
+        Call::Row { form } => ours::rows(*form, records, kept, out),
         Call::Lines { renderer } => ours::lines(records, *renderer, kept, out),
         Call::Text { renderer, message } => {
             ours::text(records, message.as_bytes(), *renderer, kept, out)

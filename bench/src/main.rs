@@ -31,6 +31,7 @@ use oracle::renderdag::render;
 use oracle::stream;
 
 use std::env;
+use std::hint::black_box;
 use std::process::ExitCode;
 
 /// How the program is called.
@@ -62,15 +63,28 @@ fn main() -> ExitCode {
     ExitCode::SUCCESS
 }
 
+/// A local that keeps the stack at the same place of 64 bytes, whatever the environment: how many instructions a copy takes depends on it.
+#[repr(align(64))]
+struct Place([u8; 64]);
+
+/// Runs one side of a case once, and gives its rows.
+#[inline(never)]
+fn once(case: &mut cases::Case, side: &str) -> usize {
+    match side {
+        "ours" => case.ours(),
+        _ => case.rust(),
+    }
+    case.len()
+}
+
 /// Runs one side of the case with this number once, for callgrind to count, and prints the case and its rows.
 fn count(number: usize, rows: usize, side: &str) -> ExitCode {
     let Some(mut case) = cases::numbered(number, rows) else {
         return ExitCode::FAILURE;
     };
-    match side {
-        "ours" => case.ours(),
-        _ => case.rust(),
-    }
-    println!("{}\t{}\t{}", case.name, case.lines, case.len());
+    let place = black_box(Place([0; 64]));
+    let rows = once(&mut case, side);
+    black_box(&place.0);
+    println!("{}\t{}\t{}", case.name, case.lines, rows);
     ExitCode::SUCCESS
 }

@@ -38,13 +38,22 @@ extern "C" {
         out: *mut u8,
         out_length: usize,
     ) -> usize;
+
+    fn whole_history_previews(
+        records: *const u8,
+        records_length: usize,
+        kept: bool,
+        out: *mut u8,
+        out_length: usize,
+    ) -> usize;
 }
 
-/// Which of our row calls is made: the core, by value, or the public call, on a lent shaper and a lent list of entries.
+/// Which of our row calls is made: the core, by value, the public call, on a lent shaper and a lent list of entries, or the preview, by value.
 #[derive(Clone, Copy, PartialEq, Eq)]
 pub enum Form {
     Core,
     Lent,
+    Preview,
 }
 
 /// The text call on every record, and how many of them were drawn.
@@ -65,12 +74,13 @@ pub fn text(records: &[u8], message: &[u8], renderer: u8, kept: bool, out: &mut 
     }
 }
 
-/// The row call on every record, and how many of them were given a shape.
-pub fn shapes(form: Form, records: &[u8], kept: bool, out: &mut [u8]) -> usize {
+/// The row call on every record, and how many of them were given a shape or a preview.
+pub fn rows(form: Form, records: &[u8], kept: bool, out: &mut [u8]) -> usize {
     let (records, out) = (black_box(records), black_box(out));
     let call = match form {
         Form::Core => whole_history_shapes,
         Form::Lent => whole_history_lent_shapes,
+        Form::Preview => whole_history_previews,
     };
     // SAFETY: as above.
     unsafe {

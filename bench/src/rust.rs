@@ -104,6 +104,24 @@ pub fn shapes(rows: &[Row]) {
     }
 }
 
+/// Every row's preview, by the row call on a copy of the shaper, which then takes the shaper's place: node column, width and the count of
+/// columns afterwards, a byte each, into `out`, which is emptied before each row unless they are kept.
+#[inline(never)]
+pub fn previews(rows: &[Row], kept: bool, out: &mut Vec<u8>) {
+    let mut shaper = GraphRowShaper::with_options(options());
+    for row in black_box(rows) {
+        if !kept {
+            out.clear();
+        }
+        let mut copy = shaper.clone();
+        let shape = black_box(copy.next_row_shape(row.node, row.parents()));
+        let columns = copy.columns().len();
+        out.extend([shape.node_column, shape.node_line.len(), columns].map(|n| n as u8));
+        black_box(&mut *out);
+        shaper = copy;
+    }
+}
+
 /// Every row's shape in the bytes that our side writes.
 pub fn shape_bytes(rows: &[Row]) -> Vec<u8> {
     let mut shaper = GraphRowShaper::with_options(options());

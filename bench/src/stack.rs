@@ -75,7 +75,7 @@ fn depth(run: &mut dyn FnMut()) -> usize {
 /// How deep each call goes on each side: the greatest depth of all cases.
 pub fn table(rows: usize) {
     println!("call       ours bytes   Rust bytes");
-    for call in ["row", "lent row", "lines", "text"] {
+    for call in ["row", "lent row", "preview", "lines", "text"] {
         let (mut ours, mut rust) = (0, 0);
         for mut case in cases::all(rows).filter(|case| case.name.starts_with(call)) {
             case.check();

@@ -2,7 +2,9 @@ pub mod RecordReads
 pub mod RunLaws
 pub mod ShapeLaws
 pub mod TextTurn
+pub mod PutTurn
 pub mod ShapeTurn
+pub mod PreviewTurn
 pub mod LinesTurn
 pub mod FrontLaws
 pub mod HeldLaws

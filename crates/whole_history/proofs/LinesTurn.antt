@@ -26,7 +26,8 @@ use Rattle.steps.specs.Steps.{ProgressView, beginning}
 use Rattle.steps.specs.Promises.{progressViewOf}
 use Rattle.whole_history.specs.Whole.{entriesOf, rendererOf, State, placeAfter, rowsOf, linesStep, wholeLines}
 use Rattle.whole_history.proofs.RunLaws.{part-lent, part-back, part-same, left, left-first, recordAt, run-ends, run-goes, run-stops}
-use Rattle.whole_history.proofs.ShapeTurn.{stateOf, row-replied}
+use Rattle.whole_history.proofs.PutTurn.{stateOf}
+use Rattle.whole_history.proofs.ShapeTurn.{row-replied}
 
 -- ---- what the renderer call's definition says of a refusal and of what was written
 answered-refused : (k : ℕ) (bs out : List ℕ) → (answered k bs out .refusal ≡ 0 → ⊥) → answered k bs out .output ≡ out

@@ -1,4 +1,4 @@
--- The bytes of a row shape, as bench compares them: 12 of the row, then 8 of each cell.
+-- The bytes of a row shape and of a preview, as bench compares them: of a shape 12 of the row, then 8 of each cell; of a preview 3.
 use Prim.Native.Nat.{ℕ, _/_, _%_}
 use mathlib.Core.Bool.{Bool, cond}
 use mathlib.Core.List.{List, [], _∷_, _++_}
@@ -50,3 +50,7 @@ shapeBytes g = headBytes g ++ joins cellBytes (take (g .width) (g .cells))
 -- the cell of its node alone
 abbrev pub nodeBytes : RowShape → List ℕ
 nodeBytes g = joins cellBytes (take 1 (drop (g .«node_column») (g .cells)))
+
+-- a preview: the node's column, the width of its line, and the count of columns afterwards
+abbrev pub previewBytes : ℕ → ℕ → ℕ → List ℕ
+previewBytes column width count = column % 0x100 ∷ width % 0x100 ∷ count % 0x100 ∷ []

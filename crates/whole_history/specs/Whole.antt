@@ -1,13 +1,15 @@
--- Whole histories, as bench runs them: the text call, the row call, or the row call and the renderer call on every record, one after the other.
+-- Whole histories, as bench runs them: the text call, the row call, the preview, or the row call and the renderer call on every record, one after the other.
 use Prim.Native.Nat.{ℕ, suc, _+_, _/_, min}
 use mathlib.Core.Bool.{Bool, cond, _&&_}
 use mathlib.Core.List.{List, [], _∷_, _++_, map}
 use mathlib.Core.Option.{Option, none, some}
 use lib.Dec.{eqb, leb}
 use lib.ListN.{length, getD, take, drop}
+use Rattle.column.specs.declared.Found.the-variants.{At}
 use Rattle.render.specs.declared.render.Ancestor.{Ancestor as Entry}
-use Rattle.shaper.specs.Shaper.{View}
+use Rattle.shaper.specs.Shaper.{View, viewAfter}
 use Rattle.row_shape.specs.Row.{RowReply, row}
+use Rattle.preview.specs.Preview.{PreviewReply, preview}
 use Rattle.glyphs.specs.declared.Renderer.{Renderer}
 use Rattle.glyphs.specs.declared.Renderer.the-variants.{Ascii, AsciiLarge, Square, Curved, Dec}
 use Rattle.slices.specs.Joins.{over}
@@ -16,7 +18,7 @@ use Rattle.output.specs.Output.{TextView}
 use Rattle.text.specs.Text.{TextReply, text}
 use Rattle.record.specs.Record.{recordLength, pieces, idAt, markOf, parentCount, parentLimit, writtenFrom, entryOf}
 use Rattle.steps.specs.Steps.{beginning}
-use Rattle.whole_history.specs.Shapes.{shapeBytes, nodeBytes}
+use Rattle.whole_history.specs.Shapes.{shapeBytes, nodeBytes, previewBytes}
 
 -- ---- what is read
 
@@ -74,15 +76,25 @@ textStep q kept message s b =
     (some (record { view = r .view; text = r .text; from = placeAfter kept (s .from) (r .length); output = take (s .from) (s .output) ++ r .output }))
     none
 
--- the row call on a record, and the bytes of its shape, or of its node's cell alone; nothing where it is refused or there is no room for them
+-- some bytes of a row into the output, with the view after the row; nothing where the row's refusal is not 0 or there is no room for them
+abbrev pub putStep : Bool → State → ℕ → View → List ℕ → Option State
+putStep kept s refusal v bytes =
+    let room : List ℕ = drop (s .from) (s .output) in
+    cond (eqb refusal 0 && leb (length bytes) (length room))
+    (some (record { view = v; text = s .text; from = placeAfter kept (s .from) (length bytes); output = take (s .from) (s .output) ++ over bytes room }))
+    none
+
+-- the row call on a record, and the bytes of its shape, or of its node's cell alone
 abbrev pub shapeStep : Bool → State → List ℕ → Option State
 shapeStep kept s b =
     let r : RowReply = row (s .view) (idAt b 0) (entriesOf b) in
-    let bytes : List ℕ = cond kept (shapeBytes (r .shape)) (nodeBytes (r .shape)) in
-    let room : List ℕ = drop (s .from) (s .output) in
-    cond (eqb (r .refusal) 0 && leb (length bytes) (length room))
-    (some (record { view = r .view; text = s .text; from = placeAfter kept (s .from) (length bytes); output = take (s .from) (s .output) ++ over bytes room }))
-    none
+    putStep kept s (r .refusal) (r .view) (cond kept (shapeBytes (r .shape)) (nodeBytes (r .shape)))
+
+-- the preview of a record's row, and its bytes; the view after it is made of what the preview gave
+abbrev pub previewStep : Bool → State → List ℕ → Option State
+previewStep kept s b =
+    let r : PreviewReply = preview (s .view) (idAt b 0) (entriesOf b) in
+    putStep kept s (r .refusal) (viewAfter (s .view) (r .columns) (At (r .column))) (previewBytes (r .column) (r .width) (length (r .columns)))
 
 -- the row call on a record and the renderer call on its shape, with the record's mark; nothing where either is refused
 abbrev pub linesStep : Renderer → Bool → State → List ℕ → Option State
@@ -100,6 +112,10 @@ wholeText records message renderer kept out = rowsOf (textStep (rendererOf rende
 -- the shapes of a whole history
 unfoldable pub wholeShapes : List ℕ → Bool → List ℕ → Whole
 wholeShapes records kept out = rowsOf (shapeStep kept) 0 (recordsOf records) (start out)
+
+-- the previews of a whole history
+unfoldable pub wholePreviews : List ℕ → Bool → List ℕ → Whole
+wholePreviews records kept out = rowsOf (previewStep kept) 0 (recordsOf records) (start out)
 
 -- the prefix lines of a whole history
 unfoldable pub wholeLines : List ℕ → ℕ → Bool → List ℕ → Whole

@@ -1,5 +1,5 @@
-// Whole histories: the row call, the renderer call and the text call on every record of a history, for bench, which times them beside the
-// Rust.
+// Whole histories: the row call, the preview, the renderer call and the text call on every record of a history, for bench, which times them
+// beside the Rust.
 ghost use mathlib.Core.Path.{_≡_};
 ghost use mathlib.Core.Bool.{false};
 ghost use Prim.Native.Nat.{_+_, _≤_, _%_};
@@ -10,11 +10,13 @@ ghost use Rattle.row_shape.specs.Promises.{Rows};
 ghost use Rattle.lineage.specs.Promises.{LentRows};
 ghost use Rattle.record.specs.Record.{recordLength, idAt, entryOf};
 ghost use Rattle.record.specs.Promises.{entriesWith};
-ghost use Rattle.whole_history.specs.Shapes.{flag as flagOf, nodeNumber, padNumber, cellBytes, headBytes, shapeBytes};
-ghost use Rattle.whole_history.specs.Whole.{entriesOf, rendererOf, wholeText, wholeShapes, wholeLines};
+ghost use Rattle.whole_history.specs.Shapes.{flag as flagOf, nodeNumber, padNumber, cellBytes, headBytes, shapeBytes, previewBytes};
+ghost use Rattle.whole_history.specs.Whole.{entriesOf, rendererOf, wholeText, wholeShapes, wholePreviews, wholeLines};
 use column::COLUMN_LIMIT;
+use column::Found;
 use glyphs::Renderer;
 use prefix_lines::next_prefix_lines;
+use preview::preview;
 use record::PARENT_LIMIT;
 use record::RECORD;
 use render::Ancestor;
@@ -46,6 +48,9 @@ const ENTRY: usize = 5;
 const HEAD: usize = 12;
 
 const CELL: usize = 8;
+
+// The bytes that are written of a preview.
+const PREVIEW: usize = 3;
 
 // A byte as a wider number.
 fn wide(byte: u8) -> u32
@@ -215,6 +220,17 @@ fn write_shape(out: &mut [u8], shape: RowShape) -> usize
     size
 }
 
+// A preview's bytes: the node's column, the width of its line, and the count of columns afterwards.
+fn preview_bytes(node_column: usize, width: usize, count: usize) -> [u8; PREVIEW]
+    ensures { λ r. ⌜ r ≡ previewBytes «node_column» width count ⌝ }
+{
+    [
+        low_byte(node_column as u64),
+        low_byte(width as u64),
+        low_byte(count as u64),
+    ]
+}
+
 // The row call on a lent shaper and a lent list: a shaper of its own and the first entries of an array.
 fn row_with(mut shaper: Shaper, node: u32, list: [Entry; ENTRY_LIMIT], count: usize) -> RowAnswer
     requires { ⌜ count ≤ entryLimit ⌝ }
@@ -315,6 +331,48 @@ pub extern "C" fn whole_history_shapes(records: &[u8], kept: bool, out: &mut [u8
             }
             let cell = cell_bytes(shape.cells[column]);
             write_bytes(&mut out[from..], &cell);
+        }
+        rows = drawn;
+    }
+    rows
+}
+
+// The preview of each record's row, on a shaper made of what the preview before it gave: its bytes behind those before them if they are
+// kept, else at the output's beginning. Ends at the first row that is refused or that there is no room for, and gives the count of those
+// before it.
+#[no_mangle]
+pub extern "C" fn whole_history_previews(records: &[u8], kept: bool, out: &mut [u8]) -> usize
+    ensures { λ r. ⌜ wholePreviews (now (records .entry)) kept (now (out .entry)) ≡ record { rows = r; output = now (out .exit) } ⌝ }
+{
+    let begun = steps::begin();
+    let mut shaper = begun.shaper;
+    let mut from: usize = 0;
+    let mut rows: usize = 0;
+    while RECORD <= records.len() - RECORD * rows {
+        let at = RECORD * rows;
+        let drawn = rows + 1;
+        let bytes = &records[at..at + RECORD];
+        let given = preview(shaper, id_at(bytes, 0), entries_of(bytes));
+        // Made ahead of the test: behind it the columns would be copied once more.
+        let slots = given.slots;
+        let previous_node_column = Found::At(given.node_column);
+        let options = shaper.options;
+        shaper = Shaper {
+            slots,
+            count: given.count,
+            previous_node_column,
+            options,
+        };
+        if given.refusal != 0 {
+            return rows;
+        }
+        let shown = preview_bytes(given.node_column, given.width, given.count);
+        let written = write_bytes(&mut out[from..], &shown);
+        if written == 0 {
+            return rows;
+        }
+        if kept {
+            from += written;
         }
         rows = drawn;
     }
