@@ -31,11 +31,13 @@ use Rattle.render.specs.declared.render.NodeLine.{NodeLine}
 use Rattle.render.specs.declared.render.NodeLine.the-variants as node
 use Rattle.render.specs.declared.render.PadLine.{PadLine}
 use Rattle.render.specs.declared.render.PadLine.the-variants as pad
-use Rattle.glyphs.specs.Cells.{choiceOf}
+use Rattle.glyphs.specs.BoxDrawing.{Facts}
+use Rattle.glyphs.specs.Cells.{choiceBy}
 use Rattle.glyphs.specs.Choices.{padChoice, nodeChoice, termChoice}
 use Rattle.glyphs.specs.Inner.{isLink, linkLineChoice, nextIndex, nextLink, Plain, plainChoice, plainNumber}
+use Rattle.glyphs.specs.LinkTable.{named}
 use Rattle.glyphs.specs.Row.{places}
-use Rattle.glyphs.specs.Tables.{numberOf, numbersFrom, numbersIn, Chooses}
+use Rattle.glyphs.specs.Tables.{numberOf, numbersFrom, numbersIn, firstCells, Chooses}
 use Rattle.glyphs.proofs.PlaceLaws.{place-made, cells-fitting}
 
 -- ---- the numbers of a cell that is given no link
@@ -85,30 +87,29 @@ module _ (q : Renderer) (d : DashStyle) (i : ℕ) (r : PlainNumbers) (e : Plain 
       go false = pad-same (c .ancestry)
 
   -- in a line that is no link line, a cell's number among them is its number
-  pub plain-same : (row : Row) (l : Line) (p : Place) → isLink l ≡ false → plainNumber r (plainChoice row l (p .cell)) ≡ numberOf q d i (choiceOf q row l p)
-  unfolding choiceOf
-  plain-same row PreNode p h = pad-same (nodeToPad (row .«is_head») (p .cell .node))
-  plain-same row Node p h = node-same (p .cell .node)
-  plain-same row PostNode p h = pad-same (nodeToPad (row .«is_root») (p .cell .node))
-  plain-same row Link p h = cc
-  plain-same row SecondLink p h = cc
-  plain-same row Term p h = term-same Solid (p .cell) (e .solid)
-  plain-same row SecondTerm p h = term-same End (p .cell) (e .end)
-  plain-same row Ancestry p h = pad-same (p .cell .ancestry)
-  plain-same row PostAncestry p h = pad-same (footPad (row .«dash_style») (p .cell .ancestry))
+  pub plain-same : (named : Facts → ℕ) (row : Row) (l : Line) (p : Place) → isLink l ≡ false
+      → plainNumber r (plainChoice row l (p .cell)) ≡ numberOf q d i (choiceBy named q row l p)
+  plain-same named row PreNode p h = pad-same (nodeToPad (row .«is_head») (p .cell .node))
+  plain-same named row Node p h = node-same (p .cell .node)
+  plain-same named row PostNode p h = pad-same (nodeToPad (row .«is_root») (p .cell .node))
+  plain-same named row Link p h = cc
+  plain-same named row SecondLink p h = cc
+  plain-same named row Term p h = term-same Solid (p .cell) (e .solid)
+  plain-same named row SecondTerm p h = term-same End (p .cell) (e .end)
+  plain-same named row Ancestry p h = pad-same (p .cell .ancestry)
+  plain-same named row PostAncestry p h = pad-same (footPad (row .«dash_style») (p .cell .ancestry))
 
 -- in a link line, a cell's choice is its choice
-pub link-same : (q : Renderer) (row : Row) (l : Line) (p : Place) → isLink l ≡ true → linkLineChoice q row l p ≡ choiceOf q row l p
-unfolding choiceOf
-link-same q row PreNode p h = cc
-link-same q row Node p h = cc
-link-same q row PostNode p h = cc
-link-same q row Link p h = refl
-link-same q row SecondLink p h = refl
-link-same q row Term p h = cc
-link-same q row SecondTerm p h = cc
-link-same q row Ancestry p h = cc
-link-same q row PostAncestry p h = cc
+pub link-same : (named : Facts → ℕ) (q : Renderer) (row : Row) (l : Line) (p : Place) → isLink l ≡ true → linkLineChoice named q row l p ≡ choiceBy named q row l p
+link-same named q row PreNode p h = cc
+link-same named q row Node p h = cc
+link-same named q row PostNode p h = cc
+link-same named q row Link p h = refl
+link-same named q row SecondLink p h = refl
+link-same named q row Term p h = cc
+link-same named q row SecondTerm p h = cc
+link-same named q row Ancestry p h = cc
+link-same named q row PostAncestry p h = cc
 
 -- ---- the numbers of a line by place
 
@@ -144,12 +145,12 @@ module _ (q : Renderer) (d : DashStyle) (f : Place → Choice) where
 -- ---- a line's cells one by one
 
 -- the first i of n cells of a line have their numbers, in an array of m places
-pub record Chosen (d : Drawing) (l : Line) (n m i : ℕ) (numbers : List ℕ) : Type 0 where
+pub record Chosen (t : List ℕ) (d : Drawing) (l : Line) (n m i : ℕ) (numbers : List ℕ) : Type 0 where
   pub within : i ≤ n
   pub long : length numbers ≡ m
-  pub front : take i numbers ≡ take i (numbersIn d l)
+  pub front : take i numbers ≡ take i (numbersIn t d l)
 
-module _ (d : Drawing) (l : Line) (w n m : ℕ) (long : length (d .cells) ≡ columnLimit) (e : w ≡ min (d .width) columnLimit) (f : n ≡ min w m) where
+module _ (t : List ℕ) (d : Drawing) (l : Line) (w n m : ℕ) (long : length (d .cells) ≡ columnLimit) (e : w ≡ min (d .width) columnLimit) (f : n ≡ min w m) where
   few : w ≤ columnLimit
   few = omega arith
 
@@ -164,10 +165,10 @@ module _ (d : Drawing) (l : Line) (w n m : ℕ) (long : length (d .cells) ≡ co
           let k : w ≡ columnLimit = omega (arith, ltb-false (d .width) columnLimit h) in
           ap (λ (j : ℕ). take j (d .cells)) k ∙ cells-fitting (d .cells) (d .width) long (ltb-false (d .width) columnLimit h)
 
-  count-numbers : length (numbersIn d l) ≡ w
+  count-numbers : length (numbersIn t d l) ≡ w
   count-numbers =
       let k : length (take w (d .cells)) ≡ w = length-take w (d .cells) ∙ omega (arith, long) in
-      length-numbers (d .renderer) (d .row .«dash_style») (choiceOf (d .renderer) (d .row) l) 0 (take (d .width) (d .cells))
+      length-numbers (d .renderer) (d .row .«dash_style») (choiceBy (named t) (d .renderer) (d .row) l) 0 (take (d .width) (d .cells))
       ∙ ap length (sym same-cells)
       ∙ k
 
@@ -177,57 +178,61 @@ module _ (d : Drawing) (l : Line) (w n m : ℕ) (long : length (d .cells) ≡ co
     made next = record { index = i; cell = c; next = next }
 
     number-made : (next : LinkLine) → next ≡ nextLink (getD (d .cells) (nextIndex i) blankCell) i w
-        → numberOf (d .renderer) (d .row .«dash_style») i (choiceOf (d .renderer) (d .row) l (made next)) ≡ getD (numbersIn d l) i 0
+        → numberOf (d .renderer) (d .row .«dash_style») i (choiceBy (named t) (d .renderer) (d .row) l (made next)) ≡ getD (numbersIn t d l) i 0
     number-made next z =
         let j : i < w = omega arith in
         let k : i < length (take (d .width) (d .cells)) = omega (arith, ap length same-cells, length-take w (d .cells), long) in
         let p : made next ≡ getD (places 0 (take w (d .cells))) i noPlace = place-made (d .cells) w i long few j blankCell noPlace (made next) (rw (z, g)) in
-        ap (λ (x : Place). numberOf (d .renderer) (d .row .«dash_style») i (choiceOf (d .renderer) (d .row) l x))
+        ap (λ (x : Place). numberOf (d .renderer) (d .row .«dash_style») i (choiceBy (named t) (d .renderer) (d .row) l x))
         (p ∙ ap (λ (cs : List Cell). getD (places 0 cs) i noPlace) same-cells)
-        ∙ sym (rw (zero-add i) at (number-at (d .renderer) (d .row .«dash_style») (choiceOf (d .renderer) (d .row) l) 0 i (take (d .width) (d .cells)) k))
+        ∙ sym (rw (zero-add i) at (number-at (d .renderer) (d .row .«dash_style») (choiceBy (named t) (d .renderer) (d .row) l) 0 i (take (d .width) (d .cells)) k))
 
-    choose-next : (numbers : List ℕ) (v : ℕ) → Chosen d l n m i numbers → v ≡ getD (numbersIn d l) i 0 → Chosen d l n m (i + 1) (set numbers i v)
+    choose-next : (numbers : List ℕ) (v : ℕ) → Chosen t d l n m i numbers → v ≡ getD (numbersIn t d l) i 0 → Chosen t d l n m (i + 1) (set numbers i v)
     choose-next numbers v s z =
         let k : i < length numbers = omega (arith, s .long) in
-        let j : i < length (numbersIn d l) = omega (arith, count-numbers) in
+        let j : i < length (numbersIn t d l) = omega (arith, count-numbers) in
         record {
           within = omega arith;
           long = length-set numbers i v ∙ s .long;
-          front = rw (add-one i) (take-suc-set numbers i v k ∙ rw (s .front, z, take-suc (numbersIn d l) i 0 j));
+          front = rw (add-one i) (take-suc-set numbers i v k ∙ rw (s .front, z, take-suc (numbersIn t d l) i 0 j));
         }
 
-    pub choose-link : (numbers : List ℕ) (v k : ℕ) (next : LinkLine) → Chosen d l n m i numbers → isLink l ≡ true → k ≡ nextIndex i
+    pub choose-link : (numbers : List ℕ) (v k : ℕ) (next : LinkLine) → Chosen t d l n m i numbers → isLink l ≡ true → k ≡ nextIndex i
         → next ≡ nextLink (getD (d .cells) k blankCell) i w
-        → v ≡ numberOf (d .renderer) (d .row .«dash_style») i (linkLineChoice (d .renderer) (d .row) l (made next))
-        → Chosen d l n m (i + 1) (set numbers i v)
+        → v ≡ numberOf (d .renderer) (d .row .«dash_style») i (linkLineChoice (named t) (d .renderer) (d .row) l (made next))
+        → Chosen t d l n m (i + 1) (set numbers i v)
     choose-link numbers v k next s link b z u =
         choose-next numbers v s
-        (u ∙ ap (numberOf (d .renderer) (d .row .«dash_style») i) (link-same (d .renderer) (d .row) l (made next) link)
+        (u ∙ ap (numberOf (d .renderer) (d .row .«dash_style») i) (link-same (named t) (d .renderer) (d .row) l (made next) link)
         ∙ number-made next (z ∙ ap (λ (j : ℕ). nextLink (getD (d .cells) j blankCell) i w) b))
 
-    pub choose-plain : (numbers : List ℕ) (v : ℕ) (first others at : PlainNumbers) → Chosen d l n m i numbers → isLink l ≡ false
+    pub choose-plain : (numbers : List ℕ) (v : ℕ) (first others at : PlainNumbers) → Chosen t d l n m i numbers → isLink l ≡ false
         → Plain (d .renderer) (d .row .«dash_style») 0 first → Plain (d .renderer) (d .row .«dash_style») 1 others → at ≡ cond (ltb 0 i) others first
         → v ≡ plainNumber at (plainChoice (d .row) l c)
-        → Chosen d l n m (i + 1) (set numbers i v)
+        → Chosen t d l n m (i + 1) (set numbers i v)
     choose-plain numbers v first others at s link x y b u =
         let p : Plain (d .renderer) (d .row .«dash_style») i at = rw b (plain-at (d .renderer) (d .row .«dash_style») i first others x y) in
         let next : LinkLine = nextLink (getD (d .cells) (nextIndex i) blankCell) i w in
         choose-next numbers v s
-        (u ∙ plain-same (d .renderer) (d .row .«dash_style») i at p (d .row) l (made next) link ∙ number-made next refl)
+        (u ∙ plain-same (d .renderer) (d .row .«dash_style») i at p (named t) (d .row) l (made next) link ∙ number-made next refl)
 
   -- all of them
-  pub choose-all : (i : ℕ) (before numbers : List ℕ) → length before ≡ m → Chosen d l n m i numbers → n ≤ i → Chooses (numbersIn d l) before numbers n
+  pub choose-all : (i : ℕ) (before numbers : List ℕ) → length before ≡ m → Chosen t d l n m i numbers → n ≤ i → Chooses (numbersIn t d l) before numbers n
   choose-all i before numbers b s h =
       let k : i ≡ n = omega (arith, s .within) in
       let j : min n columnLimit ≡ n = omega arith in
       record {
         count = omega (arith, count-numbers, b, f);
         chosen =
-            ap (λ (z : ℕ). take z numbers) j ∙ ap (λ (z : ℕ). take z numbers) (sym k) ∙ s .front ∙ ap (λ (z : ℕ). take z (numbersIn d l)) (k ∙ f ∙ ap₂ min (sym count-numbers) (sym b))
-            ∙ take-capped (length before) (numbersIn d l);
+            ap (λ (z : ℕ). take z numbers) j ∙ ap (λ (z : ℕ). take z numbers) (sym k) ∙ s .front ∙ ap (λ (z : ℕ). take z (numbersIn t d l)) (k ∙ f ∙ ap₂ min (sym count-numbers) (sym b))
+            ∙ take-capped (length before) (numbersIn t d l);
         few = omega (arith, count-numbers);
       }
 
 -- an array of cells has 64, by what the prover knows of an array that is a struct's field
 pub cells-long : (l : List Cell) → length (map (the-type .to) l) ≡ columnLimit → length l ≡ columnLimit
 cells-long l e = sym (length-map l (the-type .to)) ∙ e
+
+-- an array for a row's cells holds all numbers of a line
+pub chosen-all : {numbers before after : List ℕ} {r : ℕ} → Chooses numbers before after r → length before ≡ columnLimit → firstCells r after ≡ numbers
+chosen-all {numbers} {before} w e = w .chosen ∙ take-all (length before) numbers (omega (arith, w .few, e))

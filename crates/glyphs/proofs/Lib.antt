@@ -1,6 +1,9 @@
 pub mod BoxLaws
 pub mod CellsLaws
 pub mod ChoiceLaws
+pub mod CountedLaws
+pub mod LinkLaws
 pub mod PlaceLaws
 pub mod TableLaws
+pub mod UnionLaws
 pub mod WriteLaws

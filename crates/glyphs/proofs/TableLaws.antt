@@ -1,12 +1,12 @@
 -- Laws of tables of glyphs: what a table holds, the numbers by which cells are drawn from it, and the text of a line drawn by them.
-use mathlib.Core.Path.{_≡_, refl, sym, _∙_}
+use mathlib.Core.Path.{_≡_, refl, sym, ap₂, _∙_}
 use mathlib.Core.Bool.{Bool, true, false, cond, not, _&&_}
 use mathlib.Core.List.{List, [], _∷_, _++_, map}
 use Prim.Native.Nat.{ℕ, zero, suc, _+_, _*_, _<_, _≤_, zero-le}
-use native.Mathlib.Nat.{not-suc-le-zero, le-of-suc-le-suc, add-zero, zero-add}
+use native.Mathlib.Nat.{not-suc-le-zero, le-of-suc-le-suc, zero-add}
 use native.Mathlib.Omega.{arith}
 use lib.Dec.{T, leb, ltb, eqb, lit≤, ltb→lt}
-use lib.ListN.{length, getD, take, length-take, length-map, List·getD-append}
+use lib.ListN.{length, getD, take, length-take, length-map, length-append, List·getD-append}
 use lib.Seq.{getD-append-add}
 use borrow.Author.Tests.{leb-true, leb-false, lt-leb, le-leb, eqb-true}
 use Rattle.render.specs.declared.render.LinkLine.{LinkLine}
@@ -23,7 +23,7 @@ use Rattle.slices.specs.Characters.{blank, bar, dot, underscore, tilde}
 use Rattle.glyphs.specs.declared.Renderer.{Renderer}
 use Rattle.glyphs.specs.declared.Renderer.the-variants.{Ascii, AsciiLarge, Square, Curved, Dec}
 use Rattle.glyphs.specs.declared.types.Choice.{Choice}
-use Rattle.glyphs.specs.declared.types.Choice.the-variants.{Space, Solid, Dashed, Mark, End, Two, Three}
+use Rattle.glyphs.specs.declared.types.Choice.the-variants.{Space, Solid, Dashed, Mark, End, Two, Three, Glyph}
 use Rattle.glyphs.specs.declared.types.Drawing.{Drawing}
 use Rattle.glyphs.specs.declared.types.Line.{Line}
 use Rattle.glyphs.specs.declared.types.Line.the-variants.{PreNode, Node, PostNode, Link, SecondLink, Term, SecondTerm, Ancestry, PostAncestry}
@@ -32,35 +32,16 @@ use Rattle.glyphs.specs.declared.types.Row.{Row}
 use Rattle.glyphs.specs.Ascii as ascii
 use Rattle.glyphs.specs.AsciiLarge as large
 use Rattle.glyphs.specs.BoxDrawing as box
-use Rattle.glyphs.specs.Cells.{linkChoice, secondLinkChoice, choiceOf, bytesOf, joinsFrom}
+use Rattle.glyphs.specs.Cells.{linkChoice, secondLinkChoice, choiceBy, choiceOf, choicesOf, bytesOf, joinsFrom}
 use Rattle.glyphs.specs.Choices.{padChoice, nodeChoice, termChoice, choiceWith, noChoice}
 use Rattle.glyphs.specs.GlyphSets.{ANCESTOR}
-use Rattle.glyphs.specs.Inner.{linkLineChoice}
+use Rattle.glyphs.specs.Inner.{glyphOf}
+use Rattle.glyphs.specs.LinkTable.{named}
 use Rattle.glyphs.specs.Marks.{horizontal, vertical, vertParent, vertAncestor, leftFork, rightFork, leftMerge, rightMerge, anyFork, anyMerge, anyForkOrMerge, child, horizParent, horizAncestor, leftForkParent, leftForkAncestor, rightForkParent, rightForkAncestor, leftMergeParent, leftMergeAncestor, rightMergeParent, rightMergeAncestor}
 use Rattle.glyphs.specs.Row.{firstLink, places}
-use Rattle.glyphs.specs.Tables.{placed, glyphAt, paired, uprights, connections, lefts, centers, rights, two, asciiTable, largeTable, boxTable, tableOf, Tables, placeIn, pairNumber, asciiNumber, firstNumber, threeNumber, apartNumber, largeNumber, boxNumber, numberOf, numbersFrom, numbersIn, lineIn, cellsText}
-
--- what holds of both holds of either
-cond-holds : {A : Type 0} (P : A → Type 0) (b : Bool) (x y : A) → P x → P y → P (cond b x y)
-cond-holds P true x y h g = h
-cond-holds P false x y h g = g
-
--- ---- a list counted out
-abbrev pub counted : (ℕ → List ℕ) → ℕ → ℕ → List (List ℕ)
-counted f i zero = []
-counted f i (suc k) = f i ∷ counted f (suc i) k
-
-counted-in : (f : ℕ → List ℕ) (i k n : ℕ) → n < k → f (i + n) ≡ getD (counted f i k) n []
-counted-in f i zero n h = absurd (not-suc-le-zero h)
-counted-in f i (suc k) zero h = rw (add-zero i)
-counted-in f i (suc k) (suc n) h =
-    let e : i + suc n ≡ suc i + n = omega arith in
-    rw e (counted-in f (suc i) k n (le-of-suc-le-suc h))
-
-counted-past : (f : ℕ → List ℕ) (i k n : ℕ) → k ≤ n → [] ≡ getD (counted f i k) n []
-counted-past f i zero n h = refl
-counted-past f i (suc k) zero h = absurd (not-suc-le-zero h)
-counted-past f i (suc k) (suc n) h = counted-past f (suc i) k n (le-of-suc-le-suc h)
+use Rattle.glyphs.specs.Tables.{placed, glyphAt, paired, uprights, connections, lefts, centers, rights, two, asciiTable, largeTable, boxTable, tableOf, Holds, Tables, placeIn, pairNumber, asciiNumber, firstNumber, threeNumber, apartNumber, largeNumber, boxNumber, numberOf, numbersFrom, numbersIn, lineIn, cellsText}
+use Rattle.glyphs.proofs.CountedLaws.{cond-holds, counted, counted-in, counted-past}
+use Rattle.glyphs.proofs.LinkLaws.{link-low}
 
 -- ---- the glyphs of a table
 module _ (t : List ℕ) (n : ℕ) where
@@ -83,8 +64,17 @@ unfolding glyphAt
 holds t k gs h e n = rw (← e) (go (leb (n * 9 + 9) (length t)) refl)
   where
     go : (b : Bool) → leb (n * 9 + 9) (length t) ≡ b → cond b (placed t n) [] ≡ getD (counted (placed t) 0 k) n []
-    go true b = rw (zero-add n) at (counted-in (placed t) 0 k n (omega (arith, h, leb-true (n * 9 + 9) (length t) b)))
-    go false b = counted-past (placed t) 0 k n (omega (arith, h, leb-false (n * 9 + 9) (length t) b))
+    go true b = rw (zero-add n) at (counted-in (placed t) [] 0 k n (omega (arith, h, leb-true (n * 9 + 9) (length t) b)))
+    go false b = counted-past (placed t) [] 0 k n (omega (arith, h, leb-false (n * 9 + 9) (length t) b))
+
+-- what stands behind a table's glyphs changes none of them
+pub glyph-ahead : (t u : List ℕ) (n : ℕ) → n * 9 + 9 ≤ length t → glyphAt (t ++ u) n ≡ glyphAt t n
+glyph-ahead t u n h =
+    let same : (j : ℕ) → j < 9 → getD (t ++ u) (n * 9 + j) 0 ≡ getD t (n * 9 + j) 0 = λ j b. List·getD-append t u 0 (n * 9 + j) (omega (arith, h, b)) in
+    let count : getD (t ++ u) (n * 9) 0 ≡ getD t (n * 9) 0 = List·getD-append t u 0 (n * 9) (omega (arith, h)) in
+    let e : placed (t ++ u) n ≡ placed t n =
+    rw (count, same 1 (lit≤ tt), same 2 (lit≤ tt), same 3 (lit≤ tt), same 4 (lit≤ tt), same 5 (lit≤ tt), same 6 (lit≤ tt), same 7 (lit≤ tt), same 8 (lit≤ tt)) in
+    glyph-there (t ++ u) n (omega (arith, h, length-append t u)) ∙ e ∙ sym (glyph-there t n h)
 
 -- ---- a character's place in a list is at most the list's length
 place-low : (xs : List ℕ) (c : ℕ) → placeIn xs c ≤ length xs
@@ -111,47 +101,10 @@ dashed-first Once e = rw e
 cond-below : (b : Bool) (x y k : ℕ) → x < k → y < k → cond b x y < k
 cond-below b x y k h g = cond-holds (λ (n : ℕ). n < k) b x y h g
 
-across-small : (merge : Bool) (cur : LinkLine) → box.across merge cur < 15
-unfolding box.across
-across-small merge cur =
-    cond-below (meets cur child) _ _ _ (lit≤ tt)
-    (cond-below (meets cur anyFork && meets cur anyMerge) _ _ _ (lit≤ tt)
-    (cond-below (meets cur anyFork && (meets cur vertParent && not merge)) _ _ _ (lit≤ tt)
-    (cond-below (meets cur anyFork) _ _ _ (lit≤ tt)
-    (cond-below (meets cur anyMerge) _ _ _ (lit≤ tt)
-    (lit≤ tt)))))
-
-between-small : (left right : Bool) (n : ℕ) → n < 15 → box.between left right n < 15
-unfolding box.between
-between-small left right n h = cond-below left _ _ _ (cond-below right _ _ _ (lit≤ tt) (lit≤ tt)) (cond-below right _ _ _ (lit≤ tt) h)
-
-turning-small : (cur : LinkLine) → box.turning cur < 15
-unfolding box.turning
-turning-small cur =
-    cond-below (meets cur leftFork && meets cur (joined leftMerge child)) _ _ _ (lit≤ tt)
-    (cond-below (meets cur rightFork && meets cur (joined rightMerge child)) _ _ _ (lit≤ tt)
-    (cond-below (meets cur leftMerge && meets cur rightMerge) _ _ _ (lit≤ tt)
-    (cond-below (meets cur leftFork && meets cur rightFork) _ _ _ (lit≤ tt)
-    (cond-below (meets cur leftFork) _ _ _ (lit≤ tt)
-    (cond-below (meets cur leftMerge) _ _ _ (lit≤ tt)
-    (cond-below (meets cur rightFork) _ _ _ (lit≤ tt)
-    (cond-below (meets cur rightMerge) _ _ _ (lit≤ tt)
-    (lit≤ tt))))))))
-
-plain-small : (cur : LinkLine) → box.plain cur < 15
-unfolding box.plain
-plain-small cur = cond-below (meets cur vertAncestor) _ _ _ (lit≤ tt) (lit≤ tt)
-
-link-small : (merge : Bool) (cur : LinkLine) → box.boxLink merge cur < 15
-unfolding box.boxLink
-link-small merge cur =
-    cond-below (meets cur horizontal) _ _ _ (across-small merge cur)
-    (cond-below (meets cur vertParent && not merge) _ _ _ (between-small _ _ _ (lit≤ tt))
-    (cond-below (meets cur vertical && not (meets cur anyFork)) _ _ _ (between-small _ _ _ (plain-small cur))
-    (turning-small cur)))
-
-styled-small : (d : DashStyle) (n : ℕ) → n < 15 → box.styled d n < 15
-styled-small d n h = cond-below (eqb n ANCESTOR) (box.ancestor d) n 15 (ancestor-small d) h
+styled-below : (d : DashStyle) (n k : ℕ) → 15 ≤ k → n < k → box.styled d n < k
+styled-below d n k h g =
+    let a : box.ancestor d < k = omega (arith, h, ancestor-small d) in
+    cond-below (eqb n ANCESTOR) (box.ancestor d) n k a g
 
 pair-small : (a b : ℕ) → pairNumber a b < 256
 pair-small a b = omega (arith, place-low uprights a, place-low connections b)
@@ -162,41 +115,60 @@ first-small b c = omega (arith, place-low centers b, place-low rights c)
 three-small : (a b c : ℕ) → threeNumber a b c < 256
 three-small a b c = omega (arith, place-low lefts a, place-low centers b, place-low rights c)
 
-linked-small : (d : DashStyle) (i a b c : ℕ) → largeNumber d i (large.linked i a b c) < 256
-linked-small d i a b c =
-    cond-holds (λ (x : Choice). largeNumber d i x < 256) (ltb 0 i) (Three a b c) (Two b c) (three-small a b c) (first-small b c)
+apart-small : (i c : ℕ) → apartNumber i c < 256
+apart-small i c = cond-below (ltb 0 i) _ _ _ (three-small blank c blank) (first-small c blank)
 
-link-line-holds : (P : Choice → Type 0) (q : Renderer) (r : Row) (p : Place) → P Space → P (linkChoice q r p) → P (secondLinkChoice q r p) → (l : Line)
-    → P (linkLineChoice q r l p)
-link-line-holds P q r p space link second PreNode = space
-link-line-holds P q r p space link second Node = space
-link-line-holds P q r p space link second PostNode = space
-link-line-holds P q r p space link second Link = link
-link-line-holds P q r p space link second SecondLink = second
-link-line-holds P q r p space link second Term = space
-link-line-holds P q r p space link second SecondTerm = space
-link-line-holds P q r p space link second Ancestry = space
-link-line-holds P q r p space link second PostAncestry = space
+-- two or three characters of the large ASCII renderer are no glyph
+linked-small : (i a b c : ℕ) → glyphOf (large.linked i a b c) < 256
+linked-small i a b c = cond-holds (λ (x : Choice). glyphOf x < 256) (ltb 0 i) (Three a b c) (Two b c) (lit≤ tt) (lit≤ tt)
 
-box-small : (r : Row) (p : Place) → boxNumber (r .«dash_style») (box.link r p) < 256
-box-small r p = omega (arith, styled-small (r .«dash_style») (box.boxLink (r .merge) (p .cell .link)) (link-small (r .merge) (p .cell .link)))
+pub large-link-small : (r : Row) (p : Place) → glyphOf (large.link r p) < 256
+large-link-small r p = linked-small (p .index) _ _ _
 
-pub number-small : (q : Renderer) (r : Row) (l : Line) (p : Place) → numberOf q (r .«dash_style») (p .index) (linkLineChoice q r l p) < 256
+pub second-small : (q : Renderer) (r : Row) (p : Place) → glyphOf (secondLinkChoice q r p) < 256
+second-small Ascii r p = lit≤ tt
+second-small AsciiLarge r p = linked-small (p .index) _ _ _
+second-small Square r p = lit≤ tt
+second-small Curved r p = lit≤ tt
+second-small Dec r p = lit≤ tt
+
+ascii-small : (d : DashStyle) (x : Choice) → asciiNumber d x < 256
+ascii-small d Space = lit≤ tt
+ascii-small d Solid = lit≤ tt
+ascii-small d Dashed = pair-small (ascii.ancestor d) blank
+ascii-small d Mark = lit≤ tt
+ascii-small d End = lit≤ tt
+ascii-small d (Two a b) = pair-small a b
+ascii-small d (Three a b c) = lit≤ tt
+ascii-small d (Glyph n) = lit≤ tt
+
+large-small : (d : DashStyle) (i : ℕ) (x : Choice) → largeNumber d i x < 256
+large-small d i Space = apart-small i blank
+large-small d i Solid = apart-small i bar
+large-small d i Dashed = apart-small i (ascii.ancestor d)
+large-small d i Mark = cond-below (ltb 0 i) _ _ _ (lit≤ tt) (lit≤ tt)
+large-small d i End = apart-small i tilde
+large-small d i (Two b c) = first-small b c
+large-small d i (Three a b c) = three-small a b c
+large-small d i (Glyph n) = lit≤ tt
+
+box-small : (d : DashStyle) (x : Choice) → glyphOf x < 256 → boxNumber d x < 256
+box-small d Space h = lit≤ tt
+box-small d Solid h = lit≤ tt
+box-small d Dashed h = omega (arith, ancestor-small d)
+box-small d Mark h = lit≤ tt
+box-small d End h = lit≤ tt
+box-small d (Two a b) h = lit≤ tt
+box-small d (Three a b c) h = lit≤ tt
+box-small d (Glyph n) h = styled-below d n 256 (lit≤ tt) h
+
+pub number-small : (q : Renderer) (d : DashStyle) (i : ℕ) (x : Choice) → glyphOf x < 256 → numberOf q d i x < 256
 unfolding numberOf
-number-small Ascii r l p =
-    link-line-holds (λ (x : Choice). asciiNumber (r .«dash_style») x < 256) Ascii r p (lit≤ tt)
-    (pair-small (ascii.upright r (p .cell .link)) (ascii.connection r (p .cell .link) (p .next)))
-    (lit≤ tt)
-    l
-number-small AsciiLarge r l p =
-    link-line-holds (λ (x : Choice). largeNumber (r .«dash_style») (p .index) x < 256) AsciiLarge r p
-    (cond-below (ltb 0 (p .index)) _ _ _ (lit≤ tt) (lit≤ tt))
-    (linked-small (r .«dash_style») (p .index) _ _ _)
-    (linked-small (r .«dash_style») (p .index) _ _ _)
-    l
-number-small Square r l p = link-line-holds (λ (x : Choice). boxNumber (r .«dash_style») x < 256) Square r p (lit≤ tt) (box-small r p) (lit≤ tt) l
-number-small Curved r l p = link-line-holds (λ (x : Choice). boxNumber (r .«dash_style») x < 256) Curved r p (lit≤ tt) (box-small r p) (lit≤ tt) l
-number-small Dec r l p = link-line-holds (λ (x : Choice). boxNumber (r .«dash_style») x < 256) Dec r p (lit≤ tt) (box-small r p) (lit≤ tt) l
+number-small Ascii d i x h = ascii-small d x
+number-small AsciiLarge d i x h = large-small d i x
+number-small Square d i x h = box-small d x h
+number-small Curved d i x h = box-small d x h
+number-small Dec d i x h = box-small d x h
 
 -- ---- a character that is in a list, and the pairs of two lists
 record Among (xs : List ℕ) (c : ℕ) : Type 0 where
@@ -319,15 +291,23 @@ module _ (cur : LinkLine) where
       stroke-among rights cur rightForkParent rightForkAncestor _ _ _ (known tt) (known tt) (known tt)
 
 -- ---- the glyph by a choice's number is the choice's bytes
-pair-drawn : (mark a b : ℕ) → Among uprights a → Among connections b → getD (asciiTable mark) (pairNumber a b) [] ≡ two a b
+-- glyph n of a list of glyphs is these bytes
+record Drawn (table : List (List ℕ)) (n : ℕ) (bs : List ℕ) : Type 0 where
+  within : n < length table
+  glyph : getD table n [] ≡ bs
+
+pair-drawn : (mark a b : ℕ) → Among uprights a → Among connections b → Drawn (asciiTable mark) (pairNumber a b) (two a b)
 pair-drawn mark a b h k =
     let n : pairNumber a b < 32 = omega (arith, h .there, k .there) in
-    List·getD-append (paired two uprights connections) (two mark blank ∷ []) [] (pairNumber a b) n ∙ pairs-at uprights connections a b h k
+    record {
+      within = omega (arith, n);
+      glyph = List·getD-append (paired two uprights connections) (two mark blank ∷ []) [] (pairNumber a b) n ∙ pairs-at uprights connections a b h k;
+    }
 
-glyph-drawn : (glyphs : ℕ → List ℕ) (mark n : ℕ) → n < 15 → getD (boxTable glyphs mark) n [] ≡ glyphs n
+glyph-drawn : (glyphs : ℕ → List ℕ) (mark n : ℕ) → n < 15 → Drawn (boxTable glyphs mark) n (glyphs n)
 glyph-drawn glyphs mark n h =
-    let e : glyphs n ≡ getD (counted glyphs 0 15) n [] = rw (zero-add n) at (counted-in glyphs 0 15 n h) in
-    List·getD-append (counted glyphs 0 15) (two mark blank ∷ []) [] n h ∙ sym e
+    let e : glyphs n ≡ getD (counted glyphs 0 15) n [] = rw (zero-add n) at (counted-in glyphs [] 0 15 n h) in
+    record { within = omega (arith, h); glyph = List·getD-append (counted glyphs 0 15) (two mark blank ∷ []) [] n h ∙ sym e }
 
 module _ (mark : ℕ) where
   abbrev pairs : List (List ℕ)
@@ -339,34 +319,41 @@ module _ (mark : ℕ) where
   abbrev marks : List (List ℕ)
   marks = (blank ∷ two mark blank) ∷ two mark blank ∷ []
 
-  two-drawn : (b c : ℕ) → Among centers b → Among rights c → getD (largeTable mark) (firstNumber b c) [] ≡ two b c
+  two-drawn : (b c : ℕ) → Among centers b → Among rights c → Drawn (largeTable mark) (firstNumber b c) (two b c)
   two-drawn b c h k =
       let n = 5 * placeIn centers b + placeIn rights c in
       let m : 5 * placeIn centers b + placeIn rights c < 30 = omega (arith, h .there, k .there) in
-      getD-append-add threes (pairs ++ marks) n [] ∙ List·getD-append pairs marks [] n m ∙ pairs-at centers rights b c h k
+      record {
+        within = omega (arith, m);
+        glyph = getD-append-add threes (pairs ++ marks) n [] ∙ List·getD-append pairs marks [] n m ∙ pairs-at centers rights b c h k;
+      }
 
-  three-drawn : (a b c : ℕ) → Among lefts a → Among centers b → Among rights c → getD (largeTable mark) (threeNumber a b c) [] ≡ a ∷ two b c
+  three-drawn : (a b c : ℕ) → Among lefts a → Among centers b → Among rights c → Drawn (largeTable mark) (threeNumber a b c) (a ∷ two b c)
   three-drawn a b c g h k =
       let n = 5 * placeIn centers b + placeIn rights c in
       let m : 5 * placeIn centers b + placeIn rights c < 30 = omega (arith, h .there, k .there) in
       let o : threeNumber a b c < 150 = omega (arith, g .there, h .there, k .there) in
-      List·getD-append threes (pairs ++ marks) [] (threeNumber a b c) o
-      ∙ paired-at (λ (a : ℕ) (bs : List ℕ). a ∷ bs) lefts pairs (placeIn lefts a) n 0 a [] (two b c) [] (g .there) m (place-at lefts a 0 (g .there))
-      (pairs-at centers rights b c h k)
+      record {
+        within = omega (arith, o);
+        glyph =
+            List·getD-append threes (pairs ++ marks) [] (threeNumber a b c) o
+            ∙ paired-at (λ (a : ℕ) (bs : List ℕ). a ∷ bs) lefts pairs (placeIn lefts a) n 0 a [] (two b c) [] (g .there) m (place-at lefts a 0 (g .there))
+            (pairs-at centers rights b c h k);
+      }
 
-  apart-drawn : (i c : ℕ) → Among centers c → getD (largeTable mark) (apartNumber i c) [] ≡ large.apart i (two c blank)
+  apart-drawn : (i c : ℕ) → Among centers c → Drawn (largeTable mark) (apartNumber i c) (large.apart i (two c blank))
   apart-drawn i c h = go (ltb 0 i)
     where
-      go : (b : Bool) → getD (largeTable mark) (cond b (threeNumber blank c blank) (firstNumber c blank)) [] ≡ cond b (blank ∷ two c blank) (two c blank)
+      go : (b : Bool) → Drawn (largeTable mark) (cond b (threeNumber blank c blank) (firstNumber c blank)) (cond b (blank ∷ two c blank) (two c blank))
       go true = three-drawn blank c blank (known tt) h (known tt)
       go false = two-drawn c blank h (known tt)
 
-  mark-drawn : (i : ℕ) → getD (largeTable mark) (cond (ltb 0 i) 180 181) [] ≡ large.apart i (two mark blank)
+  mark-drawn : (i : ℕ) → Drawn (largeTable mark) (cond (ltb 0 i) 180 181) (large.apart i (two mark blank))
   mark-drawn i = go (ltb 0 i)
     where
-      go : (b : Bool) → getD (largeTable mark) (cond b 180 181) [] ≡ cond b (blank ∷ two mark blank) (two mark blank)
-      go true = refl
-      go false = refl
+      go : (b : Bool) → Drawn (largeTable mark) (cond b 180 181) (cond b (blank ∷ two mark blank) (two mark blank))
+      go true = record { within = lit≤ tt; glyph = refl }
+      go false = record { within = lit≤ tt; glyph = refl }
 
 -- what holds of each of the five plain choices and of the link cells' holds of each choice
 module _ (P : Choice → Type 0) (space : P Space) (solid : P Solid) (dashed : P Dashed) (mark : P Mark) (end : P End) where
@@ -403,17 +390,26 @@ module _ (mark : ℕ) (r : Row) (l : Line) (p : Place) where
   cur = p .cell .link
 
   abbrev AsciiDrawn : Choice → Type 0
-  AsciiDrawn x = getD (asciiTable mark) (asciiNumber style x) [] ≡ ascii.bytes style mark x
+  AsciiDrawn x = Drawn (asciiTable mark) (asciiNumber style x) (ascii.bytes style mark x)
 
   ascii-drawn : AsciiDrawn (choiceWith ascii.link noChoice r l p)
   ascii-drawn =
-      choice-holds AsciiDrawn refl refl (pair-drawn mark (ascii.ancestor style) blank (dash-upright style) (known tt)) refl refl ascii.link noChoice r p
+      choice-holds AsciiDrawn
+      (record { within = lit≤ tt; glyph = refl })
+      (record { within = lit≤ tt; glyph = refl })
+      (pair-drawn mark (ascii.ancestor style) blank (dash-upright style) (known tt))
+      (record { within = lit≤ tt; glyph = refl })
+      (record { within = lit≤ tt; glyph = refl })
+      ascii.link
+      noChoice
+      r
+      p
       (pair-drawn mark (ascii.upright r cur) (ascii.connection r cur (p .next)) (upright-among r cur) (connection-among r cur (p .next)))
-      refl
+      (record { within = lit≤ tt; glyph = refl })
       l
 
   abbrev LargeDrawn : Choice → Type 0
-  LargeDrawn x = getD (largeTable mark) (largeNumber style (p .index) x) [] ≡ large.bytes style mark (p .index) x
+  LargeDrawn x = Drawn (largeTable mark) (largeNumber style (p .index) x) (large.bytes style mark (p .index) x)
 
   linked-drawn : (a b c : ℕ) → Among lefts a → Among centers b → Among rights c → LargeDrawn (large.linked (p .index) a b c)
   linked-drawn a b c f g h = cond-holds LargeDrawn (ltb 0 (p .index)) (Three a b c) (Two b c) (three-drawn mark a b c f g h) (two-drawn mark b c g h)
@@ -436,17 +432,26 @@ module _ (mark : ℕ) (r : Row) (l : Line) (p : Place) where
 
   module _ (glyphs : ℕ → List ℕ) where
     abbrev BoxDrawn : Choice → Type 0
-    BoxDrawn x = getD (boxTable glyphs mark) (boxNumber style x) [] ≡ box.bytes glyphs style mark x
+    BoxDrawn x = Drawn (boxTable glyphs mark) (boxNumber style x) (box.bytes glyphs style mark x)
 
-    box-drawn : BoxDrawn (choiceWith box.link noChoice r l p)
+    box-drawn : BoxDrawn (choiceWith (box.link box.boxLink) noChoice r l p)
     box-drawn =
-        choice-holds BoxDrawn refl refl (glyph-drawn glyphs mark (box.ancestor style) (ancestor-small style)) refl refl box.link noChoice r p
-        (glyph-drawn glyphs mark (box.styled style (box.boxLink (r .merge) cur)) (styled-small style (box.boxLink (r .merge) cur) (link-small (r .merge) cur)))
-        refl
+        let facts = box.factsOf (r .merge) cur in
+        choice-holds BoxDrawn
+        (record { within = lit≤ tt; glyph = refl })
+        (record { within = lit≤ tt; glyph = refl })
+        (glyph-drawn glyphs mark (box.ancestor style) (ancestor-small style))
+        (record { within = lit≤ tt; glyph = refl })
+        (record { within = lit≤ tt; glyph = refl })
+        (box.link box.boxLink)
+        noChoice
+        r
+        p
+        (glyph-drawn glyphs mark (box.styled style (box.boxLink facts)) (styled-below style (box.boxLink facts) 15 (lit≤ tt) (omega (arith, link-low facts))))
+        (record { within = lit≤ tt; glyph = refl })
         l
 
-    cell-drawn : (q : Renderer) → getD (tableOf glyphs q mark) (numberOf q style (p .index) (choiceOf q r l p)) []
-        ≡ bytesOf glyphs q style mark (p .index) (choiceOf q r l p)
+    cell-drawn : (q : Renderer) → Drawn (tableOf glyphs q mark) (numberOf q style (p .index) (choiceOf q r l p)) (bytesOf glyphs q style mark (p .index) (choiceOf q r l p))
     unfolding numberOf bytesOf choiceOf
     cell-drawn Ascii = ascii-drawn
     cell-drawn AsciiLarge = large-drawn
@@ -455,14 +460,40 @@ module _ (mark : ℕ) (r : Row) (l : Line) (p : Place) where
     cell-drawn Dec = box-drawn
 
 -- ---- a line drawn by the numbers of its cells
-cells-drawn : (t : List ℕ) (glyphs : ℕ → List ℕ) (q : Renderer) (mark : ℕ) → Tables t glyphs q mark → (r : Row) (l : Line) (i : ℕ) (cs : List Cell)
+cells-drawn : (t : List ℕ) (glyphs : ℕ → List ℕ) (q : Renderer) (mark : ℕ) → Holds t glyphs q mark → (r : Row) (l : Line) (i : ℕ) (cs : List Cell)
     → cellsText t (numbersFrom q (r .«dash_style») i (map (choiceOf q r l) (places i cs)))
     ≡ joinsFrom (bytesOf glyphs q (r .«dash_style») mark) i (map (choiceOf q r l) (places i cs))
 cells-drawn t glyphs q mark h r l i [] = refl
 cells-drawn t glyphs q mark h r l i (c ∷ cs) =
     let p : Place = record { index = i; cell = c; next = firstLink cs } in
-    rw (h (numberOf q (r .«dash_style») i (choiceOf q r l p)), cell-drawn mark r l p glyphs q, cells-drawn t glyphs q mark h r l (suc i) cs)
+    let d = cell-drawn mark r l p glyphs q in
+    rw (h (numberOf q (r .«dash_style») i (choiceOf q r l p)) (d .within), d .glyph, cells-drawn t glyphs q mark h r l (suc i) cs)
 
+-- a line of a drawing by the numbers of the Rust's choices
+pub glyph-line : (t : List ℕ) (glyphs : ℕ → List ℕ) (d : Drawing) → Holds t glyphs (d .renderer) (d .mark) → (l : Line)
+    → cellsText t (numbersFrom (d .renderer) (d .row .«dash_style») 0 (choicesOf (d .renderer) (d .row) (take (d .width) (d .cells)) l)) ≡ lineIn glyphs d l
+glyph-line t glyphs d h l = cells-drawn t glyphs (d .renderer) (d .mark) h (d .row) l 0 (take (d .width) (d .cells))
+
+-- names that give a link cell the Rust's choice give every cell of every line that choice
+module _ (named : box.Facts → ℕ) (q : Renderer) (r : Row) (names : (p : Place) → linkChoice named q r p ≡ linkChoice box.boxLink q r p) where
+  choice-named : (l : Line) (p : Place) → choiceBy named q r l p ≡ choiceOf q r l p
+  unfolding choiceOf
+  choice-named PreNode p = refl
+  choice-named Node p = refl
+  choice-named PostNode p = refl
+  choice-named Link p = names p
+  choice-named SecondLink p = refl
+  choice-named Term p = refl
+  choice-named SecondTerm p = refl
+  choice-named Ancestry p = refl
+  choice-named PostAncestry p = refl
+
+  choices-named : (l : Line) (ps : List Place) → map (choiceBy named q r l) ps ≡ map (choiceOf q r l) ps
+  choices-named l [] = refl
+  choices-named l (p ∷ ps) = ap₂ _∷_ (choice-named l p) (choices-named l ps)
+
+-- a line of a drawing by the numbers out of a renderer's own table
 pub table-line : (t : List ℕ) (glyphs : ℕ → List ℕ) (d : Drawing) → Tables t glyphs (d .renderer) (d .mark) → (l : Line)
-    → cellsText t (numbersIn d l) ≡ lineIn glyphs d l
-table-line t glyphs d h l = cells-drawn t glyphs (d .renderer) (d .mark) h (d .row) l 0 (take (d .width) (d .cells))
+    → cellsText t (numbersIn t d l) ≡ lineIn glyphs d l
+table-line t glyphs d h l =
+    rw (choices-named (named t) (d .renderer) (d .row) (h .names (d .row)) l (places 0 (take (d .width) (d .cells)))) (glyph-line t glyphs d (h .holds) l)

@@ -50,13 +50,13 @@ abbrev pub keep : {A : Type 0} → (A → Bool) → List A → List A
 keep t [] = []
 keep t (x ∷ xs) = cond (t x) (x ∷ keep t xs) (keep t xs)
 
--- a link cell's choice
-abbrev pub linkChoice : Renderer → Row → Place → Choice
-linkChoice Ascii = ascii.link
-linkChoice AsciiLarge = large.link
-linkChoice Square = box.link
-linkChoice Curved = box.link
-linkChoice Dec = box.link
+-- a link cell's choice, where a box drawing renderer's glyphs are named by the argument
+abbrev pub linkChoice : (box.Facts → ℕ) → Renderer → Row → Place → Choice
+linkChoice named Ascii = ascii.link
+linkChoice named AsciiLarge = large.link
+linkChoice named Square = box.link named
+linkChoice named Curved = box.link named
+linkChoice named Dec = box.link named
 
 -- a cell's choice in the second link line, which large ASCII alone has
 abbrev pub secondLinkChoice : Renderer → Row → Place → Choice
@@ -66,9 +66,13 @@ secondLinkChoice Square = noChoice
 secondLinkChoice Curved = noChoice
 secondLinkChoice Dec = noChoice
 
--- what a cell is given
+-- what a cell is given, for any names of link glyphs
+abbrev pub choiceBy : (box.Facts → ℕ) → Renderer → Row → Line → Place → Choice
+choiceBy named q r l p = choiceWith (linkChoice named q) (secondLinkChoice q) r l p
+
+-- what a cell is given: box drawing's link glyphs are those that box_drawing.rs chooses
 unfoldable pub choiceOf : Renderer → Row → Line → Place → Choice
-choiceOf q r l p = choiceWith (linkChoice q) (secondLinkChoice q) r l p
+choiceOf q r l p = choiceBy box.boxLink q r l p
 
 -- what each cell of a line is given
 abbrev pub choicesOf : Renderer → Row → List Cell → Line → List Choice

@@ -18,6 +18,7 @@ use Rattle.glyphs.specs.declared.types.Line.the-variants.{PreNode, Node,
 use Rattle.glyphs.specs.declared.types.Place.{Place}
 use Rattle.glyphs.specs.declared.types.PlainNumbers.{PlainNumbers}
 use Rattle.glyphs.specs.declared.types.Row.{Row}
+use Rattle.glyphs.specs.BoxDrawing.{Facts}
 use Rattle.glyphs.specs.Cells.{linkChoice, secondLinkChoice}
 use Rattle.glyphs.specs.Choices.{choiceWith, noChoice}
 use Rattle.glyphs.specs.Tables.{numberOf}
@@ -49,6 +50,17 @@ plainNumber r (Two a b) = 0
 plainNumber r (Three a b c) = 0
 plainNumber r (Glyph n) = 0
 
+-- the box drawing glyph's number that a choice holds, 0 of another
+abbrev pub glyphOf : Choice → ℕ
+glyphOf Space = 0
+glyphOf Solid = 0
+glyphOf Dashed = 0
+glyphOf Mark = 0
+glyphOf End = 0
+glyphOf (Two a b) = 0
+glyphOf (Three a b c) = 0
+glyphOf (Glyph n) = n
+
 -- whether a line is a link line
 abbrev pub isLink : Line → Bool
 isLink PreNode = false
@@ -66,16 +78,16 @@ abbrev pub plainChoice : Row → Line → Cell → Choice
 plainChoice r l c = choiceWith noChoice noChoice r l (record { index = 0; cell = c; next = noMarks })
 
 -- what a cell is given in a link line, a blank in another
-abbrev pub linkLineChoice : Renderer → Row → Line → Place → Choice
-linkLineChoice q r PreNode p = Space
-linkLineChoice q r Node p = Space
-linkLineChoice q r PostNode p = Space
-linkLineChoice q r Link p = linkChoice q r p
-linkLineChoice q r SecondLink p = secondLinkChoice q r p
-linkLineChoice q r Term p = Space
-linkLineChoice q r SecondTerm p = Space
-linkLineChoice q r Ancestry p = Space
-linkLineChoice q r PostAncestry p = Space
+abbrev pub linkLineChoice : (Facts → ℕ) → Renderer → Row → Line → Place → Choice
+linkLineChoice named q r PreNode p = Space
+linkLineChoice named q r Node p = Space
+linkLineChoice named q r PostNode p = Space
+linkLineChoice named q r Link p = linkChoice named q r p
+linkLineChoice named q r SecondLink p = secondLinkChoice q r p
+linkLineChoice named q r Term p = Space
+linkLineChoice named q r SecondTerm p = Space
+linkLineChoice named q r Ancestry p = Space
+linkLineChoice named q r PostAncestry p = Space
 
 -- bytes written at the start of a line that has `end` bytes: their count, that they stand there, and that nothing behind the line's end is touched
 pub record WritesWithin (bs : List ℕ) (end : ℕ) (before after : List ℕ) (r : ℕ) : Type 0 where

@@ -6,5 +6,6 @@ pub mod Choices
 pub mod GlyphSets
 pub mod Tables
 pub mod Inner
+pub mod LinkTable
 pub mod Marks
 pub mod Row

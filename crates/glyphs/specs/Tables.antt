@@ -1,5 +1,5 @@
 -- A table of glyphs, as it is lent to the writers: the glyphs that it holds, and the numbers by which a renderer's cells are drawn from it.
-use Prim.Native.Nat.{ℕ, suc, _+_, _*_, _≤_, min}
+use Prim.Native.Nat.{ℕ, suc, _+_, _*_, _<_, _≤_, min}
 use mathlib.Core.Path.{_≡_}
 use mathlib.Core.Bool.{cond}
 use mathlib.Core.List.{List, [], _∷_, _++_, map}
@@ -13,10 +13,14 @@ use Rattle.glyphs.specs.declared.types.Choice.{Choice}
 use Rattle.glyphs.specs.declared.types.Choice.the-variants as choice
 use Rattle.glyphs.specs.declared.types.Drawing.{Drawing}
 use Rattle.glyphs.specs.declared.types.Line.{Line}
+use Rattle.glyphs.specs.declared.types.Place.{Place}
+use Rattle.glyphs.specs.declared.types.Row.{Row}
 use Rattle.glyphs.specs.Ascii as ascii
 use Rattle.glyphs.specs.BoxDrawing as box
-use Rattle.glyphs.specs.Cells.{choicesOf, lineBytes}
+use Rattle.glyphs.specs.Cells.{linkChoice, choiceBy, choicesOf, lineBytes}
 use Rattle.glyphs.specs.GlyphSets.{SPACE, PARENT, TERMINATION}
+use Rattle.glyphs.specs.LinkTable.{Names, entryAt, named}
+use Rattle.glyphs.specs.Row.{places}
 use Rattle.slices.specs.Characters.{blank, bar, dot, colon, plus, minus, quote, tilde, backslash, slash, underscore}
 use Rattle.slices.specs.Joins.{joins}
 
@@ -75,6 +79,11 @@ largeTable mark =
 abbrev pub boxTable : (ℕ → List ℕ) → ℕ → List (List ℕ)
 boxTable glyphs mark = map glyphs (0 ∷ 1 ∷ 2 ∷ 3 ∷ 4 ∷ 5 ∷ 6 ∷ 7 ∷ 8 ∷ 9 ∷ 10 ∷ 11 ∷ 12 ∷ 13 ∷ 14 ∷ []) ++ (two mark blank ∷ [])
 
+-- a box drawing renderer's table: its glyphs and the mark, and the entries that name its link glyphs
+pub record BoxTables (table : List ℕ) (glyphs : ℕ → List ℕ) (mark : ℕ) : Type 0 where
+  pub holds : (n : ℕ) → n < 16 → glyphAt table n ≡ getD (boxTable glyphs mark) n []
+  pub names : Names (entryAt table)
+
 -- what a renderer's table holds, for any glyphs
 abbrev pub tableOf : (ℕ → List ℕ) → Renderer → ℕ → List (List ℕ)
 tableOf glyphs Ascii mark = asciiTable mark
@@ -84,8 +93,13 @@ tableOf glyphs Curved mark = boxTable glyphs mark
 tableOf glyphs Dec mark = boxTable glyphs mark
 
 -- a table that holds them
-abbrev pub Tables : List ℕ → (ℕ → List ℕ) → Renderer → ℕ → Type 0
-Tables table glyphs q mark = (n : ℕ) → glyphAt table n ≡ getD (tableOf glyphs q mark) n []
+abbrev pub Holds : List ℕ → (ℕ → List ℕ) → Renderer → ℕ → Type 0
+Holds table glyphs q mark = (n : ℕ) → n < length (tableOf glyphs q mark) → glyphAt table n ≡ getD (tableOf glyphs q mark) n []
+
+-- a renderer's own table: it holds the glyphs, and its entries give each link cell the choice of the Rust
+pub record Tables (table : List ℕ) (glyphs : ℕ → List ℕ) (q : Renderer) (mark : ℕ) : Type 0 where
+  pub holds : Holds table glyphs q mark
+  pub names : (r : Row) (p : Place) → linkChoice (named table) q r p ≡ linkChoice box.boxLink q r p
 
 -- ---- the number by which a cell is drawn
 
@@ -158,17 +172,15 @@ numbersFrom q d i (x ∷ xs) = numberOf q d i x ∷ numbersFrom q d (suc i) xs
 
 -- ---- what the writers are given
 
--- what the cells of a drawing's line are given
-abbrev pub choicesIn : Drawing → Line → List Choice
-choicesIn d l = choicesOf (d .renderer) (d .row) (take (d .width) (d .cells)) l
-
--- the numbers of a drawing's line
-abbrev pub numbersIn : Drawing → Line → List ℕ
-numbersIn d l = numbersFrom (d .renderer) (d .row .«dash_style») 0 (choicesIn d l)
+-- the numbers of a drawing's line, each link cell by its entry in a table
+abbrev pub numbersIn : List ℕ → Drawing → Line → List ℕ
+numbersIn table d l =
+    numbersFrom (d .renderer) (d .row .«dash_style») 0 (map (choiceBy (named table) (d .renderer) (d .row) l) (places 0 (take (d .width) (d .cells))))
 
 -- a line of a drawing with the mark in place, for any glyphs
 abbrev pub lineIn : (ℕ → List ℕ) → Drawing → Line → List ℕ
-lineIn glyphs d l = lineBytes glyphs (d .renderer) (d .row .«dash_style») (d .mark) (choicesIn d l)
+lineIn glyphs d l =
+    lineBytes glyphs (d .renderer) (d .row .«dash_style») (d .mark) (choicesOf (d .renderer) (d .row) (take (d .width) (d .cells)) l)
 
 -- the bytes of cells that are drawn by these numbers from a table
 abbrev pub cellsText : List ℕ → List ℕ → List ℕ

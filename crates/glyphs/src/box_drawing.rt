@@ -1,13 +1,15 @@
 // The glyph sets, the link line and the bytes of the box drawing renderers, after box_drawing.rs.
 ghost use mathlib.Core.Path.{_≡_};
 ghost use mathlib.Core.List.{[]};
-ghost use Prim.Native.Nat.{ℕ};
+ghost use Prim.Native.Nat.{ℕ, _<_, _≤_};
 ghost use lib.ListN.{getD, set};
-ghost use Rattle.glyphs.specs.BoxDrawing.{ancestor, across, between, turning, plain, boxLink, styled};
+ghost use Rattle.render.specs.Link.{only};
+ghost use Rattle.glyphs.specs.BoxDrawing.{ancestor, factsOf, styled};
 ghost use Rattle.glyphs.specs.Cells.{glyphsOf};
 ghost use Rattle.glyphs.specs.declared.Renderer.the-variants.{Square};
 ghost use Rattle.glyphs.specs.Inner.{Plain};
-ghost use Rattle.glyphs.specs.Tables.{glyphAt, boxNumber, boxTable};
+ghost use Rattle.glyphs.specs.LinkTable.{linkPlace, named, Names};
+ghost use Rattle.glyphs.specs.Tables.{BoxTables, glyphAt, boxNumber, boxTable};
 use crate::Renderer;
 use crate::table::GLYPH;
 use crate::types::Choice;
@@ -15,32 +17,14 @@ use crate::types::PlainNumbers;
 use render::DashStyle;
 use render::LinkLine;
 
-// The numbers of the fifteen glyphs.
+// The numbers of the fifteen glyphs, in the order of box_drawing.rs: space 0, horizontal 1, parent 2, ancestor 3, merge left 4, merge right 5,
+// merge both 6, fork left 7, fork right 8, fork both 9, join left 10, join right 11, join both 12, termination 13, ancestor once 14. Here are
+// those that are not chosen by the table of link glyphs alone.
 const SPACE: usize = 0;
-
-const HORIZONTAL: usize = 1;
 
 const PARENT: usize = 2;
 
 const ANCESTOR: usize = 3;
-
-const MERGE_LEFT: usize = 4;
-
-const MERGE_RIGHT: usize = 5;
-
-const MERGE_BOTH: usize = 6;
-
-const FORK_LEFT: usize = 7;
-
-const FORK_RIGHT: usize = 8;
-
-const FORK_BOTH: usize = 9;
-
-const JOIN_LEFT: usize = 10;
-
-const JOIN_RIGHT: usize = 11;
-
-const JOIN_BOTH: usize = 12;
 
 const TERMINATION: usize = 13;
 
@@ -49,11 +33,17 @@ const ANCESTOR_ONCE: usize = 14;
 // The number of the mark, which stands behind them.
 const MARK: usize = 15;
 
+// The bytes of the glyphs of a table, the mark among them.
+const GLYPHS: usize = (MARK + 1) * GLYPH;
+
+// The entries of the table of link glyphs, which stand behind them.
+const LINKS: usize = 512;
+
 // The bytes of a table.
-pub const BOX_TABLE: usize = (MARK + 1) * GLYPH;
+pub const BOX_TABLE: usize = GLYPHS + LINKS;
 
 // The glyphs of each set: on each line the count of a glyph's bytes, and its eight places; the mark's place is left open.
-const SQUARE_GLYPHS: [u8; BOX_TABLE] = *b"\
+const SQUARE_GLYPHS: [u8; GLYPHS] = *b"\
     \x02  \0\0\0\0\0\0\
     \x06\xe2\x94\x80\xe2\x94\x80\0\0\
     \x04\xe2\x94\x82 \0\0\0\0\
@@ -72,7 +62,7 @@ const SQUARE_GLYPHS: [u8; BOX_TABLE] = *b"\
     \x02\0 \0\0\0\0\0\0\
 ";
 
-const CURVED_GLYPHS: [u8; BOX_TABLE] = *b"\
+const CURVED_GLYPHS: [u8; GLYPHS] = *b"\
     \x02  \0\0\0\0\0\0\
     \x06\xe2\x94\x80\xe2\x94\x80\0\0\
     \x04\xe2\x94\x82 \0\0\0\0\
@@ -91,7 +81,7 @@ const CURVED_GLYPHS: [u8; BOX_TABLE] = *b"\
     \x02\0 \0\0\0\0\0\0\
 ";
 
-const DEC_GLYPHS: [u8; BOX_TABLE] = *b"\
+const DEC_GLYPHS: [u8; GLYPHS] = *b"\
     \x02  \0\0\0\0\0\0\
     \x08\x1b(0qq\x1b(B\
     \x08\x1b(0x \x1b(B\
@@ -110,7 +100,7 @@ const DEC_GLYPHS: [u8; BOX_TABLE] = *b"\
     \x02\0 \0\0\0\0\0\0\
 ";
 
-const NO_GLYPHS: [u8; BOX_TABLE] = *b"\
+const NO_GLYPHS: [u8; GLYPHS] = *b"\
     \0\0\0\0\0\0\0\0\0\
     \0\0\0\0\0\0\0\0\0\
     \0\0\0\0\0\0\0\0\0\
@@ -129,22 +119,27 @@ const NO_GLYPHS: [u8; BOX_TABLE] = *b"\
     \x02\0 \0\0\0\0\0\0\
 ";
 
-// The unions of marks that the link line asks for.
-const LEFT: LinkLine = LinkLine {
-    bits: LinkLine::LEFT_MERGE.bits | LinkLine::LEFT_FORK.bits,
-};
-
-const RIGHT: LinkLine = LinkLine {
-    bits: LinkLine::RIGHT_MERGE.bits | LinkLine::RIGHT_FORK.bits,
-};
-
-const LEFT_MERGE_OR_CHILD: LinkLine = LinkLine {
-    bits: LinkLine::LEFT_MERGE.bits | LinkLine::CHILD.bits,
-};
-
-const RIGHT_MERGE_OR_CHILD: LinkLine = LinkLine {
-    bits: LinkLine::RIGHT_MERGE.bits | LinkLine::CHILD.bits,
-};
+// The glyph's number for each nine facts of a link cell; ANCESTOR stands for the dashed upright of either style. A fact's weight is 1 for
+// HORIZONTAL, 2 for VERT_PARENT, 4 for VERT_ANCESTOR, 8 and 16 for LEFT_FORK and RIGHT_FORK, 32 and 64 for LEFT_MERGE and RIGHT_MERGE,
+// 128 for CHILD, 256 for the row's merge flag.
+const LINK_GLYPHS: [u8; LINKS] = *b"\
+    \x00\x01\x02\x01\x03\x01\x02\x01\x07\x09\x0a\x0c\x07\x09\x0a\x0c\x08\x09\x0b\x0c\x08\x09\x0b\x0c\x09\x09\x0c\x0c\x09\x09\x0c\x0c\
+    \x04\x06\x0a\x06\x0a\x06\x0a\x06\x0a\x0c\x0a\x0c\x0a\x0c\x0a\x0c\x04\x0c\x0c\x0c\x04\x0c\x0c\x0c\x0a\x0c\x0c\x0c\x0a\x0c\x0c\x0c\
+    \x05\x06\x0b\x06\x0b\x06\x0b\x06\x07\x0c\x0c\x0c\x07\x0c\x0c\x0c\x0b\x0c\x0b\x0c\x0b\x0c\x0b\x0c\x0b\x0c\x0c\x0c\x0b\x0c\x0c\x0c\
+    \x06\x06\x0c\x06\x0c\x06\x0c\x06\x0a\x0c\x0c\x0c\x0a\x0c\x0c\x0c\x0b\x0c\x0c\x0c\x0b\x0c\x0c\x0c\x0a\x0c\x0c\x0c\x0a\x0c\x0c\x0c\
+    \x00\x0c\x02\x0c\x03\x0c\x02\x0c\x0a\x0c\x0a\x0c\x0a\x0c\x0a\x0c\x0b\x0c\x0b\x0c\x0b\x0c\x0b\x0c\x0a\x0c\x0c\x0c\x0a\x0c\x0c\x0c\
+    \x04\x0c\x0a\x0c\x0a\x0c\x0a\x0c\x0a\x0c\x0a\x0c\x0a\x0c\x0a\x0c\x0b\x0c\x0c\x0c\x0b\x0c\x0c\x0c\x0a\x0c\x0c\x0c\x0a\x0c\x0c\x0c\
+    \x05\x0c\x0b\x0c\x0b\x0c\x0b\x0c\x0a\x0c\x0c\x0c\x0a\x0c\x0c\x0c\x0b\x0c\x0b\x0c\x0b\x0c\x0b\x0c\x0a\x0c\x0c\x0c\x0a\x0c\x0c\x0c\
+    \x06\x0c\x0c\x0c\x0c\x0c\x0c\x0c\x0a\x0c\x0c\x0c\x0a\x0c\x0c\x0c\x0b\x0c\x0c\x0c\x0b\x0c\x0c\x0c\x0a\x0c\x0c\x0c\x0a\x0c\x0c\x0c\
+    \x00\x01\x02\x01\x03\x01\x03\x01\x07\x09\x07\x09\x07\x09\x07\x09\x08\x09\x08\x09\x08\x09\x08\x09\x09\x09\x09\x09\x09\x09\x09\x09\
+    \x04\x06\x0a\x06\x0a\x06\x0a\x06\x0a\x0c\x0a\x0c\x0a\x0c\x0a\x0c\x04\x0c\x04\x0c\x04\x0c\x04\x0c\x0a\x0c\x0a\x0c\x0a\x0c\x0a\x0c\
+    \x05\x06\x0b\x06\x0b\x06\x0b\x06\x07\x0c\x07\x0c\x07\x0c\x07\x0c\x0b\x0c\x0b\x0c\x0b\x0c\x0b\x0c\x0b\x0c\x0b\x0c\x0b\x0c\x0b\x0c\
+    \x06\x06\x0c\x06\x0c\x06\x0c\x06\x0a\x0c\x0a\x0c\x0a\x0c\x0a\x0c\x0b\x0c\x0b\x0c\x0b\x0c\x0b\x0c\x0a\x0c\x0a\x0c\x0a\x0c\x0a\x0c\
+    \x00\x0c\x02\x0c\x03\x0c\x03\x0c\x0a\x0c\x0a\x0c\x0a\x0c\x0a\x0c\x0b\x0c\x0b\x0c\x0b\x0c\x0b\x0c\x0a\x0c\x0a\x0c\x0a\x0c\x0a\x0c\
+    \x04\x0c\x0a\x0c\x0a\x0c\x0a\x0c\x0a\x0c\x0a\x0c\x0a\x0c\x0a\x0c\x0b\x0c\x0b\x0c\x0b\x0c\x0b\x0c\x0a\x0c\x0a\x0c\x0a\x0c\x0a\x0c\
+    \x05\x0c\x0b\x0c\x0b\x0c\x0b\x0c\x0a\x0c\x0a\x0c\x0a\x0c\x0a\x0c\x0b\x0c\x0b\x0c\x0b\x0c\x0b\x0c\x0a\x0c\x0a\x0c\x0a\x0c\x0a\x0c\
+    \x06\x0c\x0c\x0c\x0c\x0c\x0c\x0c\x0a\x0c\x0a\x0c\x0a\x0c\x0a\x0c\x0b\x0c\x0b\x0c\x0b\x0c\x0b\x0c\x0a\x0c\x0a\x0c\x0a\x0c\x0a\x0c\
+";
 
 // The dashed upright's number.
 fn dashed(dash_style: DashStyle) -> usize
@@ -156,98 +151,44 @@ fn dashed(dash_style: DashStyle) -> usize
     }
 }
 
-// A link cell with a horizontal stroke.
-fn horizontal_link(merge: bool, cur: LinkLine) -> usize
-    ensures { λ r. ⌜ r ≡ across merge cur ⌝ }
+// A fact's weight in the place of an entry, 0 where the fact does not hold.
+fn weighed(fact: bool, weight: usize) -> usize
+    ensures { λ r. ⌜ (r ≡ only fact weight) × (r ≤ weight) ⌝ }
 {
-    let any_fork = cur.intersects(LinkLine::ANY_FORK);
-    let any_merge = cur.intersects(LinkLine::ANY_MERGE);
-    let vert_parent = cur.intersects(LinkLine::VERT_PARENT);
-    if cur.intersects(LinkLine::CHILD) {
-        JOIN_BOTH
-    } else if any_fork & any_merge {
-        JOIN_BOTH
-    } else if any_fork & (vert_parent & !merge) {
-        JOIN_BOTH
-    } else if any_fork {
-        FORK_BOTH
-    } else if any_merge {
-        MERGE_BOTH
-    } else {
-        HORIZONTAL
-    }
+    if fact { weight } else { 0 }
 }
 
-// An upright, with strokes to the left and to the right or else plain.
-fn vertical_link(left: bool, right: bool, plain: usize) -> usize
-    ensures { λ r. ⌜ r ≡ between left right plain ⌝ }
+// The place of a link cell's entry among the 512.
+fn link_place(merge: bool, cur: LinkLine) -> usize
+    ensures { λ r. ⌜ (r ≡ linkPlace (factsOf merge cur)) × (r < 512) ⌝ }
 {
-    if left {
-        if right { JOIN_BOTH } else { JOIN_LEFT }
-    } else if right {
-        JOIN_RIGHT
-    } else {
-        plain
-    }
+    weighed(cur.intersects(LinkLine::HORIZONTAL), 1)
+        + weighed(cur.intersects(LinkLine::VERT_PARENT), 2)
+        + weighed(cur.intersects(LinkLine::VERT_ANCESTOR), 4)
+        + weighed(cur.intersects(LinkLine::LEFT_FORK), 8)
+        + weighed(cur.intersects(LinkLine::RIGHT_FORK), 16)
+        + weighed(cur.intersects(LinkLine::LEFT_MERGE), 32)
+        + weighed(cur.intersects(LinkLine::RIGHT_MERGE), 64)
+        + weighed(cur.intersects(LinkLine::CHILD), 128)
+        + weighed(merge, 256)
 }
 
-// A link cell with neither.
-fn other_link(cur: LinkLine) -> usize
-    ensures { λ r. ⌜ r ≡ turning cur ⌝ }
+// A byte as a number.
+fn wide(byte: u8) -> usize
+    ensures { λ r. ⌜ (r ≡ byte) × (r < 256) ⌝ }
 {
-    let left_fork = cur.intersects(LinkLine::LEFT_FORK);
-    let right_fork = cur.intersects(LinkLine::RIGHT_FORK);
-    let left_merge = cur.intersects(LinkLine::LEFT_MERGE);
-    let right_merge = cur.intersects(LinkLine::RIGHT_MERGE);
-    if left_fork & cur.intersects(LEFT_MERGE_OR_CHILD) {
-        JOIN_LEFT
-    } else if right_fork & cur.intersects(RIGHT_MERGE_OR_CHILD) {
-        JOIN_RIGHT
-    } else if left_merge & right_merge {
-        MERGE_BOTH
-    } else if left_fork & right_fork {
-        FORK_BOTH
-    } else if left_fork {
-        FORK_LEFT
-    } else if left_merge {
-        MERGE_LEFT
-    } else if right_fork {
-        FORK_RIGHT
-    } else if right_merge {
-        MERGE_RIGHT
-    } else {
-        SPACE
-    }
+    byte as usize
 }
 
-// The plain upright of a link cell.
-fn plain_upright(cur: LinkLine) -> usize
-    ensures { λ r. ⌜ r ≡ plain cur ⌝ }
+// The glyph's number that a table names for a link cell, 0 past the table's end.
+pub(crate) fn link_glyph(table: &[u8], merge: bool, cur: LinkLine) -> usize
+    ensures { λ r. ⌜ (r ≡ named (now (table .entry)) (factsOf merge cur)) × (r < 256) ⌝ }
 {
-    if cur.intersects(LinkLine::VERT_ANCESTOR) {
-        ANCESTOR
-    } else {
-        PARENT
+    let at = GLYPHS + link_place(merge, cur);
+    if table.len() <= at {
+        return 0;
     }
-}
-
-// The glyph's number of a link cell, ANCESTOR for a dashed upright of either style.
-pub(crate) fn link_glyph(merge: bool, cur: LinkLine) -> usize
-    ensures { λ r. ⌜ r ≡ boxLink merge cur ⌝ }
-{
-    if cur.intersects(LinkLine::HORIZONTAL) {
-        horizontal_link(merge, cur)
-    } else if cur.intersects(LinkLine::VERT_PARENT) & !merge {
-        vertical_link(cur.intersects(LEFT), cur.intersects(RIGHT), PARENT)
-    } else if cur.intersects(LinkLine::VERTICAL) & !cur.intersects(LinkLine::ANY_FORK) {
-        vertical_link(
-            cur.intersects(LinkLine::LEFT_MERGE),
-            cur.intersects(LinkLine::RIGHT_MERGE),
-            plain_upright(cur),
-        )
-    } else {
-        other_link(cur)
-    }
+    wide(table[at])
 }
 
 // The row's own dashed upright in place of ANCESTOR.
@@ -289,8 +230,8 @@ pub(crate) fn plain_numbers(dash_style: DashStyle) -> PlainNumbers
     }
 }
 
-// The glyphs of a renderer; the ASCII ones have none.
-fn glyphs(renderer: Renderer) -> [u8; BOX_TABLE]
+// The glyphs of a renderer, the mark's place left open; the ASCII ones have none.
+fn glyphs(renderer: Renderer) -> [u8; GLYPHS]
     ensures { λ r. ⌜ ((m : ℕ) (n : ℕ) → glyphAt (set r 136 m) n ≡ getD (boxTable (glyphsOf renderer) m) n []) ⌝ }
 {
     match renderer {
@@ -302,11 +243,30 @@ fn glyphs(renderer: Renderer) -> [u8; BOX_TABLE]
     }
 }
 
-// The table of a box drawing renderer, with the mark in its place.
-pub fn box_table(renderer: Renderer, mark: u8) -> [u8; BOX_TABLE]
+// The glyphs of a renderer, with the mark in its place.
+fn marked_glyphs(renderer: Renderer, mark: u8) -> [u8; GLYPHS]
     ensures { λ r. ⌜ ((n : ℕ) → glyphAt r n ≡ getD (boxTable (glyphsOf renderer) mark) n []) ⌝ }
 {
-    let mut table = glyphs(renderer);
-    table[MARK * GLYPH + 1] = mark;
+    let mut glyphs = glyphs(renderer);
+    glyphs[MARK * GLYPH + 1] = mark;
+    glyphs
+}
+
+// The entries of the table of link glyphs.
+fn link_glyphs() -> [u8; LINKS]
+    ensures { λ r. ⌜ Names (λ (k : ℕ). getD r k 0) ⌝ }
+{
+    LINK_GLYPHS
+}
+
+// The table of a box drawing renderer: its glyphs with the mark in its place, and the link glyphs.
+pub fn box_table(renderer: Renderer, mark: u8) -> [u8; BOX_TABLE]
+    ensures { λ r. ⌜ BoxTables r (glyphsOf renderer) mark ⌝ }
+{
+    let mut table = [0u8; BOX_TABLE];
+    let glyphs = marked_glyphs(renderer, mark);
+    let links = link_glyphs();
+    bytes::copy(&glyphs, &mut table);
+    bytes::copy(&links, &mut table[GLYPHS..]);
     table
 }

@@ -1,10 +1,12 @@
 // What each cell is given in each line, and the number by which it is drawn, in all renderers.
 ghost use mathlib.Core.Path.{_≡_};
 ghost use mathlib.Core.Bool.{cond};
+ghost use Prim.Native.Nat.{_<_};
 ghost use lib.Dec.{ltb};
 ghost use Rattle.glyphs.specs.Cells.{linkChoice, secondLinkChoice};
 ghost use Rattle.glyphs.specs.Choices.{padChoice, nodeChoice};
-ghost use Rattle.glyphs.specs.Inner.{isLink, linkLineChoice, nextIndex, nextLink, Plain, plainChoice, plainNumber};
+ghost use Rattle.glyphs.specs.Inner.{glyphOf, isLink, linkLineChoice, nextIndex, nextLink, Plain, plainChoice, plainNumber};
+ghost use Rattle.glyphs.specs.LinkTable.{named};
 ghost use Rattle.glyphs.specs.Tables.{numberOf, numbersIn, Chooses};
 use crate::Renderer;
 use crate::ascii;
@@ -25,8 +27,8 @@ use render::PadLine;
 use slices::lesser;
 
 // A link line's choice.
-fn link_choice(renderer: Renderer, row: Row, place: Place) -> Choice
-    ensures { λ r. ⌜ r ≡ linkChoice renderer row place ⌝ }
+fn link_choice(table: &[u8], renderer: Renderer, row: Row, place: Place) -> Choice
+    ensures { λ r. ⌜ (r ≡ linkChoice (named (now (table .entry))) renderer row place) × (glyphOf r < 256) ⌝ }
 {
     let cell = place.cell;
     let cur = cell.link;
@@ -39,7 +41,7 @@ fn link_choice(renderer: Renderer, row: Row, place: Place) -> Choice
         ),
         Renderer::AsciiLarge => ascii_large::top(dash_style, place.index, cur),
         Renderer::Square | Renderer::Curved | Renderer::Dec => {
-            Choice::Glyph(box_drawing::link_glyph(row.merge, cur))
+            Choice::Glyph(box_drawing::link_glyph(table, row.merge, cur))
         }
     }
 }
@@ -171,14 +173,14 @@ fn plain_number(numbers: PlainNumbers, row: Row, line: Line, cell: Cell) -> u8
 }
 
 // What a cell is given in a link line, a blank in another.
-fn link_line_choice(renderer: Renderer, row: Row, line: Line, place: Place) -> Choice
-    ensures { λ r. ⌜ r ≡ linkLineChoice renderer row line place ⌝ }
+fn link_line_choice(table: &[u8], renderer: Renderer, row: Row, line: Line, place: Place) -> Choice
+    ensures { λ r. ⌜ (r ≡ linkLineChoice (named (now (table .entry))) renderer row line place) × (glyphOf r < 256) ⌝ }
 {
     match line {
         Line::PreNode => Choice::Space,
         Line::Node => Choice::Space,
         Line::PostNode => Choice::Space,
-        Line::Link => link_choice(renderer, row, place),
+        Line::Link => link_choice(table, renderer, row, place),
         Line::SecondLink => second_link_choice(renderer, row, place),
         Line::Term => Choice::Space,
         Line::SecondTerm => Choice::Space,
@@ -188,11 +190,11 @@ fn link_line_choice(renderer: Renderer, row: Row, line: Line, place: Place) -> C
 }
 
 // The number by which a cell of a link line is drawn.
-fn link_number(renderer: Renderer, row: Row, line: Line, place: Place) -> u8
-    ensures { λ r. ⌜ r ≡ numberOf renderer (row .«dash_style») (place .index) (linkLineChoice renderer row line place) ⌝ }
+fn link_number(table: &[u8], renderer: Renderer, row: Row, line: Line, place: Place) -> u8
+    ensures { λ r. ⌜ r ≡ numberOf renderer (row .«dash_style») (place .index) (linkLineChoice (named (now (table .entry))) renderer row line place) ⌝ }
 {
     let dash_style = row.dash_style;
-    let choice = link_line_choice(renderer, row, line, place);
+    let choice = link_line_choice(table, renderer, row, line, place);
     number_of(renderer, dash_style, place.index, choice) as u8
 }
 
@@ -213,37 +215,39 @@ fn is_link(line: Line) -> bool
     }
 }
 
-// Chooses the glyphs of a line, a number for each cell, as many as there is room for, and gives their count. Both loops stand here to save a copy of the cells.
-pub fn choose_cells(numbers: &mut [u8], drawing: Drawing, line: Line) -> usize
-    ensures { λ r. ⌜ Chooses (numbersIn drawing line) (now (numbers .entry)) (now (numbers .exit)) r ⌝ }
+// Chooses the glyphs of a line, a number for each cell, as many as there is room for, and gives their count; a box drawing renderer's link
+// cells by the entries of the lent table. Both loops stand here to save a copy of the cells.
+pub fn choose_cells(numbers: &mut [u8], table: &[u8], drawing: Drawing, line: Line) -> usize
+    ensures { λ r. ⌜ Chooses (numbersIn (now (table .entry)) drawing line) (now (numbers .entry)) (now (numbers .exit)) r ⌝ }
 {
     let renderer = drawing.renderer;
-    let row = drawing.row;
-    let dash_style = row.dash_style;
+    let cells = drawing.cells;
     let width = lesser(drawing.width, COLUMN_LIMIT);
     let count = lesser(width, numbers.len());
     let mut i: usize = 0;
     if is_link(line) {
         while i < count {
-            let cell = drawing.cells[i];
+            let cell = cells[i];
             let k = next_index(i);
-            let after = drawing.cells[k];
+            let after = cells[k];
             let next = next_link(after, i, width);
             let place = Place {
                 index: i,
                 cell,
                 next,
             };
-            numbers[i] = link_number(renderer, row, line, place);
+            numbers[i] = link_number(table, renderer, drawing.row, line, place);
             i += 1;
         }
         return count;
     }
+    let row = drawing.row;
+    let dash_style = row.dash_style;
     let first = plain_numbers(renderer, dash_style, 0);
     let others = plain_numbers(renderer, dash_style, 1);
     while i < count {
-        let cell = drawing.cells[i];
-        numbers[i] = plain_number(numbers_at(first, others, i), row, line, cell);
+        let cell = cells[i];
+        numbers[i] = plain_number(numbers_at(first, others, i), drawing.row, line, cell);
         i += 1;
     }
     count

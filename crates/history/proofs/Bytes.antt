@@ -15,7 +15,7 @@ use Rattle.render.specs.declared.render.PadLine.the-variants as pad
 use Rattle.render.specs.declared.types.DashStyle.{DashStyle}
 use Rattle.render.specs.declared.types.DashStyle.the-variants.{Persistent, Once}
 use Rattle.render.specs.declared.types.RowShape.{RowShape}
-use Rattle.render.specs.Lines.{preNodeLine, postAncestryLine}
+use Rattle.render.specs.Lines.{cellsOf, preNodeLine, postAncestryLine}
 use Rattle.render.specs.Mark.{isMark}
 use Rattle.render.specs.Refusals.{markOutsideSpan, refusal}
 use Rattle.shaper.specs.Shaper.{View}
@@ -24,11 +24,11 @@ use Rattle.glyphs.specs.declared.Renderer.{Renderer}
 use Rattle.glyphs.specs.declared.Renderer.the-variants.{Ascii, AsciiLarge, Square, Curved, Dec}
 use Rattle.glyphs.specs.declared.types.Line.{Line}
 use Rattle.glyphs.specs.declared.types.Line.the-variants.{PreNode, Node, PostNode, Link, SecondLink, Term, SecondTerm, Ancestry, PostAncestry}
-use Rattle.glyphs.specs.Cells.{allLines, isPresent, keep, lineOf, glyphsOf, bytesOf, joinsFrom, lineBytes}
+use Rattle.glyphs.specs.Cells.{allLines, isPresent, keep, choicesOf, lineOf, glyphsOf, bytesOf, joinsFrom, lineBytes}
 use Rattle.glyphs.specs.Choices.{padChoice}
 use Rattle.glyphs.specs.Row.{rowOf, drawingOf}
-use Rattle.glyphs.specs.Tables.{glyphAt, tableOf, Tables, numbersIn}
-use Rattle.glyphs.proofs.TableLaws.{holds, table-line}
+use Rattle.glyphs.specs.Tables.{glyphAt, tableOf, numbersFrom}
+use Rattle.glyphs.proofs.TableLaws.{holds, glyph-line}
 use Rattle.message.specs.Inner.{ends}
 use Rattle.message.specs.Message.{allOf, linesOf}
 use Rattle.slices.specs.Characters.{newline}
@@ -264,7 +264,7 @@ table gs = joins (λ (bs : List ℕ). length bs ∷ take 8 (bs ++ replicate 8 0)
 abbrev glyphs : Renderer → ℕ → List (List ℕ)
 glyphs q mark = tableOf (glyphsOf q) q mark
 
-table-holds : (q : Renderer) (mark : ℕ) → Tables (table (glyphs q mark)) (glyphsOf q) q mark
+table-holds : (q : Renderer) (mark n : ℕ) → glyphAt (table (glyphs q mark)) n ≡ getD (glyphs q mark) n []
 unfolding glyphsOf
 table-holds Ascii mark = holds (table (glyphs Ascii mark)) 33 (glyphs Ascii mark) refl refl
 table-holds AsciiLarge mark = holds (table (glyphs AsciiLarge mark)) 182 (glyphs AsciiLarge mark) refl refl
@@ -302,8 +302,8 @@ module _ (q : Renderer) (g : RowShape) (mark : ℕ) (good : eqb mark newline ≡
   shown-no-end : (l : Line) → ends (shown l) ≡ 0
   shown-no-end l =
       let t = table (glyphs q mark) in
-      let e = table-line t (glyphsOf q) (drawingOf g q mark) (table-holds q mark) l in
-      rw (letter-no-end l, ← e, joins-no-end (glyphAt t) glyph-no-end (numbersIn (drawingOf g q mark) l))
+      let e = glyph-line t (glyphsOf q) (drawingOf g q mark) (λ n h. table-holds q mark n) l in
+      rw (letter-no-end l, ← e, joins-no-end (glyphAt t) glyph-no-end (numbersFrom q (g .style .«dash_style») 0 (choicesOf q (rowOf g) (cellsOf g) l)))
 
   -- ---- split at 0A, what is written is these lines
 

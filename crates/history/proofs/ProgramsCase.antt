@@ -7,7 +7,7 @@ use Rattle.row_shape.specs.Row.{row}
 use Rattle.glyphs.specs.declared.Renderer.the-variants.{Curved}
 use Rattle.glyphs.specs.Cells.{choiceOf, glyphsOf, bytesOf}
 use Rattle.glyphs.specs.Ascii.{standing, upright, connection}
-use Rattle.glyphs.specs.BoxDrawing.{across, between, turning, plain, boxLink}
+use Rattle.glyphs.specs.BoxDrawing.{boxLink}
 use Rattle.prefix_lines.specs.Listing.{listingBytes}
 use Rattle.text.specs.Text.{textWith}
 use Rattle.record.specs.Record.{nextRecord}
@@ -21,5 +21,5 @@ unfolding row place listingBytes choiceOf glyphsOf bytesOf standing upright conn
 listing-draws = refl
 
 pub page-draws : verdicts (program pageProgram Curved) (started pageProgram) (rowsOf pageProgram (readsOf m1-file)) ≡ false ∷ false ∷ false ∷ []
-unfolding row place textWith choiceOf glyphsOf bytesOf across between turning plain boxLink nextRecord
+unfolding row place textWith choiceOf glyphsOf bytesOf boxLink nextRecord
 page-draws = refl

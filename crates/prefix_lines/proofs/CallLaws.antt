@@ -6,9 +6,7 @@ use Prim.Native.Nat.{ℕ, suc, _+_, _*_, _<_, _≤_, zero-le}
 use native.Mathlib.Nat.{le-trans, mul-le-mul-left}
 use native.Mathlib.Omega.{arith}
 use lib.Dec.{leb}
-use lib.ListN.{length, getD, length-append, length-map, length-take}
-use types.Run.{OneOf}
-use denote.Enum.Declared.{tagOf}
+use lib.ListN.{length, length-append, length-map, length-take}
 use borrow.Author.Tests.{lt-ltb, le-ltb, leb-true, leb-false}
 use Rattle.column.specs.Columns.{columnLimit}
 use Rattle.render.specs.declared.types.DashStyle.{DashStyle}
@@ -17,7 +15,7 @@ use Rattle.render.specs.Lines.{cellsOf}
 use Rattle.render.specs.Mark.{isMark}
 use Rattle.render.specs.Refusals.{markOutsideSpan, outputShorterThanLines, shapeTooWide, refusal}
 use Rattle.glyphs.specs.declared.Renderer.{Renderer}
-use Rattle.glyphs.specs.declared.Renderer.the-variants.{Ascii, AsciiLarge}
+use Rattle.glyphs.specs.declared.Renderer.the-variants.{Ascii}
 use Rattle.glyphs.specs.declared.types.Choice.{Choice}
 use Rattle.glyphs.specs.declared.types.Choice.the-variants.{Space, Solid, Dashed, Mark, End, Two, Three, Glyph}
 use Rattle.glyphs.specs.declared.types.Drawing.{Drawing}
@@ -25,9 +23,7 @@ use Rattle.glyphs.specs.declared.types.Line.{Line}
 use Rattle.glyphs.specs.Ascii as ascii
 use Rattle.glyphs.specs.Cells.{allLines, isPresent, keep, choiceOf, choicesOf, lineOf, glyphsOf, bytesOf, joinsFrom, lineBytes}
 use Rattle.glyphs.specs.Row.{rowOf, drawingOf, places}
-use Rattle.glyphs.specs.Tables.{glyphAt, asciiTable, largeTable, boxTable, Tables}
-use Rattle.glyphs.proofs.Renderer.{the-type}
-use Rattle.glyphs.proofs.BoxLaws.{box-holds}
+use Rattle.glyphs.specs.Tables.{Tables}
 use Rattle.glyphs.proofs.PlaceLaws.{length-places}
 use Rattle.glyphs.proofs.TableLaws.{table-line}
 use Rattle.slices.specs.Joins.{joins, over}
@@ -59,25 +55,13 @@ module _ (f : Frame) (q : Renderer) (g : RowShape) (mark : ℕ) where
   unfolding framedBytes
   by-lines h e = joins-kept (isPresent q (rowOf g)) (lineOf q g) (framedLine f q (g .style .«dash_style») mark) h e allLines
 
-  -- what is drawn from a table that holds the renderer's glyphs
+  -- what is drawn from the renderer's own table
   line-drawn : (t : List ℕ) → Tables t (glyphsOf q) q mark → (l : Line) → drawnLine f t (drawingOf g q mark) l ≡ shownLine l
   unfolding drawnLine
   line-drawn t h l = ap (λ (x : List ℕ). cond (isPresent q (rowOf g) l) (framed f l x) []) (table-line t (glyphsOf q) (drawingOf g q mark) h l)
 
   pub lines-drawn : (t : List ℕ) → Tables t (glyphsOf q) q mark → drawnLines f t (drawingOf g q mark) ≡ framedBytes f q g mark
   lines-drawn t h = by-lines (drawnLine f t (drawingOf g q mark)) (line-drawn t h)
-
--- ---- the table that each arm makes holds the renderer's glyphs
-module _ (t : List ℕ) (q : Renderer) (mark : ℕ) where
-  pub ascii-holds : q ≡ Ascii → ((n : ℕ) → glyphAt t n ≡ getD (asciiTable mark) n []) → Tables t (glyphsOf q) q mark
-  ascii-holds e h = rw e h
-
-  pub large-holds : q ≡ AsciiLarge → ((n : ℕ) → glyphAt t n ≡ getD (largeTable mark) n []) → Tables t (glyphsOf q) q mark
-  large-holds e h = rw e h
-
-  pub set-holds : OneOf (2 ∷ 3 ∷ 4 ∷ []) (tagOf the-type q) → ((n : ℕ) → glyphAt t n ≡ getD (boxTable (glyphsOf q) mark) n [])
-      → Tables t (glyphsOf q) q mark
-  set-holds b h n = rw (box-holds (glyphsOf q) q mark b) (h n)
 
 -- ---- the two forms
 plain-bytes : (q : Renderer) (g : RowShape) (mark : ℕ) → framedBytes Plain q g mark ≡ linesBytes (glyphsOf q) q g mark

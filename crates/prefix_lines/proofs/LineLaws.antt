@@ -1,7 +1,7 @@
 -- Laws of the lines of a row in either frame, drawn from any table of glyphs.
 use mathlib.Core.Path.{_≡_, refl, sym, ap, _∙_}
 use mathlib.Core.Bool.{Bool, true, false}
-use mathlib.Core.List.{List, [], _∷_, _++_, append-assoc, append-nil}
+use mathlib.Core.List.{List, [], _∷_, _++_, map, append-assoc, append-nil}
 use Prim.Native.Nat.{ℕ, suc, _+_, _*_, _-_, _<_, _≤_, zero-le}
 use native.Mathlib.Omega.{arith}
 use lib.Dec.{leb}
@@ -14,8 +14,9 @@ use Rattle.glyphs.specs.declared.Renderer.{Renderer}
 use Rattle.glyphs.specs.declared.types.Choice.{Choice}
 use Rattle.glyphs.specs.declared.types.Drawing.{Drawing}
 use Rattle.glyphs.specs.declared.types.Line.{Line}
-use Rattle.glyphs.specs.Cells.{allLines, isPresent, choiceOf}
-use Rattle.glyphs.specs.Tables.{glyphAt, numbersFrom, choicesIn, numbersIn, cellsText, WritesCells, firstCells, Chooses}
+use Rattle.glyphs.specs.Cells.{allLines, isPresent, choiceBy}
+use Rattle.glyphs.specs.LinkTable.{named}
+use Rattle.glyphs.specs.Tables.{glyphAt, numbersFrom, numbersIn, cellsText, WritesCells}
 use Rattle.glyphs.specs.Row.{places}
 use Rattle.glyphs.proofs.PlaceLaws.{length-places}
 use Rattle.glyphs.proofs.TableLaws.{glyph-short}
@@ -75,21 +76,17 @@ module _ (f : Frame) (t : List ℕ) (d : Drawing) (l : Line) where
   absent e = rw e
 
   module _ (e : isPresent (d .renderer) (d .row) l ≡ true) where
-    present : drawnLine f t d l ≡ framed f l (cellsText t (numbersIn d l))
+    present : drawnLine f t d l ≡ framed f l (cellsText t (numbersIn t d l))
     unfolding drawnLine
     present = rw e
 
-    present-length : length (drawnLine f t d l) ≡ length (cellsText t (numbersIn d l)) + frameLength f
-    present-length = ap length present ∙ framed-length f l (cellsText t (numbersIn d l))
+    present-length : length (drawnLine f t d l) ≡ length (cellsText t (numbersIn t d l)) + frameLength f
+    present-length = ap length present ∙ framed-length f l (cellsText t (numbersIn t d l))
 
     -- counted: the cells, and what stands around them
-    pub line-counted : {numbers : List ℕ} {c k : ℕ} → numbers ≡ numbersIn d l → c ≡ length (cellsText t numbers) → k ≡ frameLength f
+    pub line-counted : {numbers : List ℕ} {c k : ℕ} → numbers ≡ numbersIn t d l → c ≡ length (cellsText t numbers) → k ≡ frameLength f
         → c + k ≡ length (drawnLine f t d l)
     line-counted e h j = rw (h, j, e) (sym present-length)
-
--- an array for a row's cells holds all numbers of a line
-pub chosen-all : {numbers before after : List ℕ} {r : ℕ} → Chooses numbers before after r → length before ≡ columnLimit → firstCells r after ≡ numbers
-chosen-all {numbers} {before} w e = w .chosen ∙ take-all (length before) numbers (omega (arith, w .few, e))
 
 -- ---- two writers, each lent what the one before it left: p came back from place a of o, and q from behind the first r bytes of p
 part-all : (o : List ℕ) (a : ℕ) → take (length o - a) (drop a o) ≡ drop a o
@@ -136,7 +133,7 @@ joined xs text rest d {o} {p} {q} {a} {r} e f h k w n g =
 module _ (f : Frame) (t : List ℕ) (d : Drawing) (l : Line) (out : List ℕ) (shown : isPresent (d .renderer) (d .row) l ≡ true)
     (room : length (drawnLine f t d l) ≤ length out) where
   abbrev cells : List ℕ
-  cells = cellsText t (numbersIn d l)
+  cells = cellsText t (numbersIn t d l)
 
   line-fits : length (opening f l) + (length cells + length (closing f)) ≤ length out
   line-fits = omega (arith, present-length f t d l shown, frame-parts f l, room)
@@ -151,7 +148,7 @@ module _ (f : Frame) (t : List ℕ) (d : Drawing) (l : Line) (out : List ℕ) (s
     cells-fit : length cells + length (closing f) ≤ length (take (length o - a) (drop a o))
     cells-fit = omega (arith, begun .0, kept, line-fits, part-room o a)
 
-    module _ {numbers p : List ℕ} {b r : ℕ} (chosen : numbers ≡ numbersIn d l) (behind : b ≡ length (closing f))
+    module _ {numbers p : List ℕ} {b r : ℕ} (chosen : numbers ≡ numbersIn t d l) (behind : b ≡ length (closing f))
         (w : WritesCells (cellsText t numbers) b (take (length o - a) (drop a o)) p r) (same : length p ≡ length (take (length o - a) (drop a o))) where
       drawn : WritesCells cells (length (closing f)) (take (length o - a) (drop a o)) p r
       drawn = rw (chosen, behind) at w
@@ -195,13 +192,13 @@ few-counted f t {numbers} {all} e h w j =
     omega (arith, w, j, frame-small f, joins-short (glyphAt t) 8 (glyph-short t) numbers, ap length e)
 
 module _ (t : List ℕ) (d : Drawing) where
-  row-length : (l : Line) → length (numbersIn d l) ≡ length (take (d .width) (d .cells))
+  row-length : (l : Line) → length (numbersIn t d l) ≡ length (take (d .width) (d .cells))
   row-length l =
-      numbers-length (d .renderer) (d .row .«dash_style») 0 (choicesIn d l)
-      ∙ length-map (places 0 (take (d .width) (d .cells))) (choiceOf (d .renderer) (d .row) l) ∙ length-places 0 (take (d .width) (d .cells))
+      numbers-length (d .renderer) (d .row .«dash_style») 0 (map (choiceBy (named t) (d .renderer) (d .row) l) (places 0 (take (d .width) (d .cells))))
+      ∙ length-map (places 0 (take (d .width) (d .cells))) (choiceBy (named t) (d .renderer) (d .row) l) ∙ length-places 0 (take (d .width) (d .cells))
 
-  cells-short : (l : Line) → length (cellsText t (numbersIn d l)) ≤ 8 * length (take (d .width) (d .cells))
-  cells-short l = rw (row-length l) at (joins-short (glyphAt t) 8 (glyph-short t) (numbersIn d l))
+  cells-short : (l : Line) → length (cellsText t (numbersIn t d l)) ≤ 8 * length (take (d .width) (d .cells))
+  cells-short l = rw (row-length l) at (joins-short (glyphAt t) 8 (glyph-short t) (numbersIn t d l))
 
   line-within : (f : Frame) (l : Line) → length (drawnLine f t d l) ≤ 8 * length (take (d .width) (d .cells)) + frameLength f
   line-within f l = go (isPresent (d .renderer) (d .row) l) refl

@@ -40,7 +40,7 @@ framed f l bs = opening f l ++ (bs ++ closing f)
 
 -- a drawing's line in its frame, its cells drawn from a table; nothing where the row has none
 unfoldable pub drawnLine : Frame → List ℕ → Drawing → Line → List ℕ
-drawnLine f table d l = cond (isPresent (d .renderer) (d .row) l) (framed f l (cellsText table (numbersIn d l))) []
+drawnLine f table d l = cond (isPresent (d .renderer) (d .row) l) (framed f l (cellsText table (numbersIn table d l))) []
 
 -- all lines that a drawing's row has
 abbrev pub drawnLines : Frame → List ℕ → Drawing → List ℕ

@@ -35,7 +35,7 @@ fn line_length(frame: Frame, table: &[u8], drawing: Drawing, line: Line) -> usiz
         return 0;
     }
     let mut numbers = [0u8; COLUMN_LIMIT];
-    let cells = choose_cells(&mut numbers, drawing, line);
+    let cells = choose_cells(&mut numbers, table, drawing, line);
     cells_length(table, &numbers, cells) + frame_length(frame)
 }
 

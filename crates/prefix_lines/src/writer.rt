@@ -94,7 +94,7 @@ fn write_line(
     if !is_present(renderer, row, line) {
         return 0;
     }
-    let cells = choose_cells(numbers, drawing, line);
+    let cells = choose_cells(numbers, table, drawing, line);
     let start = write_opening(out, frame, line);
     let behind = closing_length(frame);
     let end = start + write_cells(&mut out[start..], table, numbers, cells, behind);

@@ -313,9 +313,9 @@ module _ (message : List ℕ) (start : ℕ) (b : List ℕ) where
     pub rows : RowPuts ps message start b o r
 
   -- a line that is written so often: the first one fits
-  pub first-fits : (l : List ℕ) (times e : ℕ) → length (textOf (drawn (replicate times l) (drop start message))) ≤ length b → (times ≡ 0 → ⊥)
+  pub first-fits : (l : List ℕ) (times e : ℕ) → length (textOf (drawn (replicate times l) (drop start message))) ≤ length b → 0 < times
       → e ≡ start + lineLength (drop start message) → length (ended (lineWith l (take (e - start) (drop start message)))) ≤ length b
-  first-fits l zero e fits n q = absurd (n refl)
+  first-fits l zero e fits n q = absurd (not-suc-le-zero n)
   first-fits l (suc k) e fits n q =
       let z : e - start ≡ lineLength (drop start message) = omega arith in
       rw z (omega (arith, fits, length-append (ended (lineWith l (firstLine (drop start message)))) (textOf (drawn (replicate k l) (otherLines (drop start message))))))
@@ -408,11 +408,6 @@ pub map-times : {A B : Type 0} (h : A → B) (n : ℕ) (x : A) → map h (replic
 map-times h zero x = refl
 map-times h (suc n) x = ap (λ (l : List _). h x ∷ l) (map-times h n x)
 
--- a line that is not written may be any
-times-of : (n : ℕ) (x y : List ℕ) → (0 < n → x ≡ y) → replicate n x ≡ replicate n y
-times-of zero x y e = refl
-times-of (suc n) x y e = ap (replicate (suc n)) (e (omega arith))
-
 module _ (t : Line → ℕ) where
   spread-append : (xs ys : List Line) → spread t (xs ++ ys) ≡ spread t xs ++ spread t ys
   spread-append [] ys = refl
@@ -428,16 +423,21 @@ module _ (t : Line → ℕ) where
   spread-short n s [] = zero-le
   spread-short n s (x ∷ xs) = rw (spread-length x xs) (omega (arith, s x, spread-short n s xs))
 
--- ---- a loop over the lines of a row: f is a line's prefix, t how often it is written; l is what was drawn of the next one, if it is wanted
+-- ---- a loop over the lines of a row: f is a line's prefix, t how often it is written
 module _ (f : Line → List ℕ) (t : Line → ℕ) (xs : List Line) (i : ℕ) where
   -- the lines so far
   abbrev pub firstLines : List (List ℕ)
   firstLines = map f (spread t (take i xs))
 
-  module _ (d : Line) (h : i < length xs) (x : Line) (n : ℕ) (e : x ≡ getD xs i d) (q : n ≡ t x) (l : List ℕ) (drew : 0 < n → l ≡ f x) where
+  -- the next one is not written
+  pub none-more : (d : Line) → i < length xs → (x : Line) (n : ℕ) → x ≡ getD xs i d → n ≡ t x → n ≡ 0 → map f (spread t (take (i + 1) xs)) ≡ firstLines
+  none-more d h x n e q z = rw (spread-next t xs i d h, ← e, ← q, z, append-nil) refl
+
+  -- the next one is written so often; l is what was drawn of it
+  module _ (d : Line) (h : i < length xs) (x : Line) (n : ℕ) (e : x ≡ getD xs i d) (q : n ≡ t x) (l : List ℕ) (drew : l ≡ f x) where
     lines-more : map f (spread t (take (i + 1) xs)) ≡ firstLines ++ replicate n l
     lines-more =
-        rw (spread-next t xs i d h, ← e, ← q, map-append f (spread t (take i xs)) (replicate n x), map-times f n x, ← times-of n l (f x) drew) refl
+        rw (spread-next t xs i d h, ← e, ← q, map-append f (spread t (take i xs)) (replicate n x), map-times f n x, drew) refl
 
     lines-apart : map f (spread t xs) ≡ (firstLines ++ replicate n l) ++ map f (spread t (drop (i + 1) xs))
     lines-apart =
@@ -477,7 +477,7 @@ pub row-started : (message : List ℕ) → length message ≤ 512 → CountingRo
 row-started message h = record { few = h; short = tt; counts = count-none message 0 zero-le }
 
 module _ (f : Line → List ℕ) (t : Line → ℕ) (xs : List Line) (i : ℕ) (message : List ℕ) (r : Counted) (g : CountingRow message (map f (spread t (take i xs))) r) where
-  pub row-counted : (d : Line) → i < length xs → (x : Line) (n : ℕ) → x ≡ getD xs i d → n ≡ t x → (l : List ℕ) → length l ≤ 512 → (0 < n → l ≡ f x)
+  pub row-counted : (d : Line) → i < length xs → (x : Line) (n : ℕ) → x ≡ getD xs i d → n ≡ t x → (l : List ℕ) → length l ≤ 512 → l ≡ f x
       → (s w : Counted) → Counts (replicate n l) message (r .next) s → w .length ≡ r .length + s .length → w .next ≡ s .next
       → CountingRow message (map f (spread t (take (i + 1) xs))) w
   row-counted d h x n e q l k drew s w u a z =

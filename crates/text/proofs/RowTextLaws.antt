@@ -24,9 +24,10 @@ use Rattle.glyphs.specs.declared.types.Drawing.{Drawing}
 use Rattle.glyphs.specs.declared.types.Line.{Line}
 use Rattle.glyphs.specs.declared.types.Line.the-variants.{PreNode, Node, PostNode, Link, SecondLink, Term, SecondTerm, Ancestry, PostAncestry}
 use Rattle.glyphs.specs.declared.types.Row.{Row}
-use Rattle.glyphs.specs.Cells.{allLines, isPresent, keep, choiceOf, PrefixLine, lineOf, lines, glyphsOf}
+use Rattle.glyphs.specs.Cells.{allLines, isPresent, keep, choiceBy, PrefixLine, lineOf, lines, glyphsOf}
 use Rattle.glyphs.specs.Row.{rowOf, drawingOf, places}
-use Rattle.glyphs.specs.Tables.{Tables, numbersFrom, numbersIn, choicesIn, cellsText, WritesCells}
+use Rattle.glyphs.specs.LinkTable.{named}
+use Rattle.glyphs.specs.Tables.{Tables, numbersFrom, numbersIn, cellsText, WritesCells}
 use Rattle.glyphs.proofs.PlaceLaws.{length-places}
 use Rattle.glyphs.proofs.TableLaws.{table-line}
 use Rattle.message.specs.Message.{linesOf, messageLimit}
@@ -47,14 +48,14 @@ module _ (table : List ℕ) (d : Drawing) (p : Plan) (t : TextView) where
   pub state-plain : waits (d .row) p ≡ false → t ≡ record { queued = []; height = p .fixed + p .needed } → t ≡ stateAfter table d p
   state-plain e f = f ∙ rw e refl
 
-  pub state-queued : waits (d .row) p ≡ true → t ≡ record { queued = cellsText table (numbersIn d PostAncestry) ∷ []; height = p .fixed + p .needed } → t ≡ stateAfter table d p
+  pub state-queued : waits (d .row) p ≡ true → t ≡ record { queued = cellsText table (numbersIn table d PostAncestry) ∷ []; height = p .fixed + p .needed } → t ≡ stateAfter table d p
   state-queued e f = f ∙ rw e refl
 
 -- the foot line's cells, written into the queue
 pub foot-queued : (table : List ℕ) (d : Drawing) (before after ns : List ℕ) (n height : ℕ) → length before ≡ queueLimit → length ns ≤ columnLimit
-    → ns ≡ numbersIn d PostAncestry → WritesCells (cellsText table ns) 0 before after n
+    → ns ≡ numbersIn table d PostAncestry → WritesCells (cellsText table ns) 0 before after n
     → (textViewOf (record { «queued_pad_line» = after; «queued_length» = n; «is_queued» = true; «row_height» = height })
-    ≡ record { queued = cellsText table (numbersIn d PostAncestry) ∷ []; height = height })
+    ≡ record { queued = cellsText table (numbersIn table d PostAncestry) ∷ []; height = height })
     × QueueFits (record { «queued_pad_line» = after; «queued_length» = n; «is_queued» = true; «row_height» = height })
 foot-queued table d before after ns n height long few e w =
     let h : length (cellsText table ns) + 0 ≤ length before = omega (arith, cells-short table ns, long) in
@@ -142,7 +143,7 @@ module _ (q : Renderer) (g : RowShape) where
   needed-same count height = ap (λ (n : ℕ). max count height - n) fixed-same
 
   module _ (mark : ℕ) (table : List ℕ) (holds : Tables table (glyphsOf q) q mark) where
-    prefix-same : (l : Line) → cellsText table (numbersIn (drawingOf g q mark) l) ≡ prefix (glyphsOf q) q g mark (lineOf q g l)
+    prefix-same : (l : Line) → cellsText table (numbersIn table (drawingOf g q mark) l) ≡ prefix (glyphsOf q) q g mark (lineOf q g l)
     prefix-same l = table-line table (glyphsOf q) (drawingOf g q mark) holds l
 
     module _ (m : List ℕ) (height : ℕ) where
@@ -158,7 +159,7 @@ module _ (q : Renderer) (g : RowShape) where
 
       rows-same : drawn (prefixes table (drawingOf g q mark) plan) m ≡ rowLines finish (glyphsOf q) q g mark (linesOf m) height
       rows-same =
-          let f : Line → List ℕ = λ l. cellsText table (numbersIn (drawingOf g q mark) l) in
+          let f : Line → List ℕ = λ l. cellsText table (numbersIn table (drawingOf g q mark) l) in
           sym (ap (λ (ls : List PrefixLine). map (λ (x : PrefixLine × List ℕ). lineWith (prefix (glyphsOf q) q g mark (x .0)) (x .1)) (withMessages ls (linesOf m))) shown-same
           ∙ drawn-messages (prefix (glyphsOf q) q g mark) (map (lineOf q g) (spread (lineTimes plan q (rowOf g)) allLines)) m
           ∙ ap (λ (ps : List (List ℕ)). drawn ps m)
@@ -168,7 +169,7 @@ module _ (q : Renderer) (g : RowShape) where
       height-same =
           ap length (sym rows-same)
           ∙ length-drawn (prefixes table (drawingOf g q mark) plan) m
-          ∙ length-map (spread (lineTimes plan q (rowOf g)) allLines) (λ (l : Line). cellsText table (numbersIn (drawingOf g q mark) l))
+          ∙ length-map (spread (lineTimes plan q (rowOf g)) allLines) (λ (l : Line). cellsText table (numbersIn table (drawingOf g q mark) l))
           ∙ spread-count q (rowOf g) (g .style .«link_line_placement») (plan .needed)
 
       state-same : stateAfter table (drawingOf g q mark) plan ≡ textAfter (glyphsOf q) q g mark (linesOf m) height
@@ -197,11 +198,12 @@ numbers-length q d i [] = refl
 numbers-length q d i (x ∷ xs) = ap suc (numbers-length q d (suc i) xs)
 
 -- a prefix line has at most eight bytes for each cell
-prefix-short : (table : List ℕ) (d : Drawing) (l : Line) → length (cellsText table (numbersIn d l)) ≤ 8 * d .width
+prefix-short : (table : List ℕ) (d : Drawing) (l : Line) → length (cellsText table (numbersIn table d l)) ≤ 8 * d .width
 prefix-short table d l =
-    let n = numbers-length (d .renderer) (d .row .«dash_style») 0 (choicesIn d l) in
-    let k = length-map (places 0 (take (d .width) (d .cells))) (choiceOf (d .renderer) (d .row) l) in
-    omega (arith, cells-short table (numbersIn d l), n, k, length-places 0 (take (d .width) (d .cells)), length-take (d .width) (d .cells))
+    let ps = places 0 (take (d .width) (d .cells)) in
+    let n = numbers-length (d .renderer) (d .row .«dash_style») 0 (map (choiceBy (named table) (d .renderer) (d .row) l) ps) in
+    let k = length-map ps (choiceBy (named table) (d .renderer) (d .row) l) in
+    omega (arith, cells-short table (numbersIn table d l), n, k, length-places 0 (take (d .width) (d .cells)), length-take (d .width) (d .cells))
 
 -- a row's lines: of each the prefix line, a blank and the end, and the message once
 module _ (table : List ℕ) (d : Drawing) (p : Plan) (m : List ℕ) where
@@ -212,7 +214,7 @@ module _ (table : List ℕ) (d : Drawing) (p : Plan) (m : List ℕ) where
     rows-short : length (textOf below) ≤ (p .fixed + p .needed) * (8 * d .width + 2) + length m
     rows-short =
         let ls : List Line = spread (lineTimes p (d .renderer) (d .row)) allLines in
-        let f : Line → List ℕ = λ l. cellsText table (numbersIn d l) in
+        let f : Line → List ℕ = λ l. cellsText table (numbersIn table d l) in
         let n : length (map f ls) ≡ p .fixed + p .needed = length-map ls f ∙ spread-count (d .renderer) (d .row) (p .placement) (p .needed) ∙ ap (λ (k : ℕ). k + p .needed) (sym fixed) in
         rw n at (drawn-short (8 * d .width) (map f ls) (short-map (8 * d .width) f (prefix-short table d) ls) m)
 

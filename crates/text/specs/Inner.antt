@@ -110,7 +110,7 @@ pub record Counts (ps : List (List ℕ)) (message : List ℕ) (start : ℕ) (r :
 
 -- the prefix lines of a row as they are written, drawn from a table
 abbrev pub prefixes : List ℕ → Drawing → Plan → List (List ℕ)
-prefixes table d p = map (λ (l : Line). cellsText table (numbersIn d l)) (spread (lineTimes p (d .renderer) (d .row)) allLines)
+prefixes table d p = map (λ (l : Line). cellsText table (numbersIn table d l)) (spread (lineTimes p (d .renderer) (d .row)) allLines)
 
 -- all lines of a call
 abbrev pub allLinesOf : List ℕ → Drawing → Plan → List ℕ → TextView → Bool → List (List ℕ)
@@ -128,7 +128,7 @@ waits r p = r .«term_line» && eqb (cond (isBottom (p .placement)) 0 (p .needed
 abbrev pub stateAfter : List ℕ → Drawing → Plan → TextView
 stateAfter table d p =
     record {
-      queued = cond (waits (d .row) p) (cellsText table (numbersIn d PostAncestry) ∷ []) [];
+      queued = cond (waits (d .row) p) (cellsText table (numbersIn table d PostAncestry) ∷ []) [];
       height = p .fixed + p .needed;
     }
 

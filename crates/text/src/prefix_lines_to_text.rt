@@ -160,17 +160,6 @@ fn times(plan: Plan, renderer: Renderer, row: Row, line: Line) -> usize
     repeats(placement, plan.needed, line)
 }
 
-// Chooses the glyphs of a line that is written so often, and gives how many cells it has.
-fn choose_line(numbers: &mut [u8], drawing: Drawing, line: Line, times: usize) -> usize
-    requires { ⌜ length (now numbers) ≡ columnLimit ⌝ }
-    ensures { λ r. ⌜ (r ≤ columnLimit) × (0 < times → firstCells r (now (numbers .exit)) ≡ numbersIn drawing line) ⌝ }
-{
-    if times == 0 {
-        return 0;
-    }
-    choose_cells(numbers, drawing, line)
-}
-
 // The length of a prefix line written so many times, each time with the next message line.
 fn repeated_length(lengths: Lengths, times: usize, message: &[u8], start: usize) -> Counted
     requires { ⌜ (lengths .all ≤ queueLimit) × (lengths .finished ≤ lengths .all) × (length (now message) ≤ messageLimit) × (start ≤ length (now message)) × (times ≤ messageLimit) ⌝ }
@@ -202,7 +191,11 @@ fn row_length(table: &[u8], drawing: Drawing, plan: Plan, message: &[u8]) -> usi
     while k < LINES {
         let line = line_at(k);
         let times = times(plan, renderer, row, line);
-        let cells = choose_line(&mut numbers, drawing, line, times);
+        if times == 0 {
+            k += 1;
+            continue;
+        }
+        let cells = choose_cells(&mut numbers, table, drawing, line);
         let lengths = lengths_of(table, &numbers, cells);
         let put = repeated_length(lengths, times, message, next);
         length += put.length;
@@ -212,7 +205,7 @@ fn row_length(table: &[u8], drawing: Drawing, plan: Plan, message: &[u8]) -> usi
     length
 }
 
-// Writes a prefix line so many times, each time with the next message line: the first by its glyphs, the others by the first one's bytes.
+// Writes a prefix line once or more often, each time with the next message line: the first by its glyphs, the others by the first one's bytes.
 fn write_repeated(
     out: &mut [u8],
     table: &[u8],
@@ -222,17 +215,10 @@ fn write_repeated(
     message: &[u8],
     start: usize,
 ) -> RowPut
-    requires { ⌜ (length (now message) ≤ messageLimit) × (start ≤ length (now message)) × (times ≤ messageLimit) ⌝ }
+    requires { ⌜ (length (now message) ≤ messageLimit) × (start ≤ length (now message)) × (0 < times) × (times ≤ messageLimit) ⌝ }
     requires { ⌜ length (textOf (drawnLines (replicate times (cellsText (now table) (firstCells cells (now numbers)))) (drop start (now message)))) ≤ length (now out) ⌝ }
     ensures { λ r. ⌜ RowPuts (replicate times (cellsText (now (table .entry)) (firstCells cells (now (numbers .entry))))) (now (message .entry)) start (now (out .entry)) (now (out .exit)) r ⌝ }
 {
-    if times == 0 {
-        return RowPut {
-            length: 0,
-            measure: 0,
-            next: start,
-        };
-    }
     let first_end = line_end(message, start);
     let first = write_text_line(out, table, numbers, cells, &message[start..first_end]);
     let mut length = first.length;
@@ -280,7 +266,11 @@ fn write_row(out: &mut [u8], table: &[u8], drawing: Drawing, plan: Plan, message
     while k < LINES {
         let line = line_at(k);
         let times = times(plan, renderer, row, line);
-        let cells = choose_line(&mut numbers, drawing, line, times);
+        if times == 0 {
+            k += 1;
+            continue;
+        }
+        let cells = choose_cells(&mut numbers, table, drawing, line);
         let put = write_repeated(
             &mut out[length..],
             table,
@@ -319,11 +309,11 @@ fn queues(row: Row, plan: Plan) -> bool
 // The text state after a row whose foot line waits.
 fn queue_foot_line(table: &[u8], drawing: Drawing, plan: Plan, state: TextState) -> TextState
     requires { ⌜ (plan .fixed ≤ 6) × (plan .needed ≤ messageLimit) ⌝ }
-    ensures { λ r. ⌜ (textViewOf r ≡ record { queued = cellsText (now (table .entry)) (numbersIn drawing Line.PostAncestry) ∷ []; height = plan .fixed + plan .needed }) × QueueFits r ⌝ }
+    ensures { λ r. ⌜ (textViewOf r ≡ record { queued = cellsText (now (table .entry)) (numbersIn (now (table .entry)) drawing Line.PostAncestry) ∷ []; height = plan .fixed + plan .needed }) × QueueFits r ⌝ }
 {
     let mut queued_pad_line = state.queued_pad_line;
     let mut numbers = [0u8; COLUMN_LIMIT];
-    let cells = choose_cells(&mut numbers, drawing, Line::PostAncestry);
+    let cells = choose_cells(&mut numbers, table, drawing, Line::PostAncestry);
     let queued_length = write_cells(&mut queued_pad_line, table, &numbers, cells, 0);
     TextState {
         queued_pad_line,

@@ -5,7 +5,9 @@ use Prim.Native.Nat.{_≤_}
 use borrow.Author.Tests.{not-true, not-false}
 use Rattle.column.specs.Columns.{columnLimit}
 use Rattle.render.specs.Mark.{isMark}
-use Rattle.prefix_lines.proofs.CallLaws.{mark-refused, width-refused, drawn-answer, ascii-holds, large-holds, set-holds}
+use Rattle.glyphs.specs.Cells.{glyphsOf}
+use Rattle.glyphs.proofs.BoxLaws.{box-tables, ascii-tables, large-tables}
+use Rattle.prefix_lines.proofs.CallLaws.{mark-refused, width-refused, drawn-answer}
 use borrow.Author.Needs.{needs}
 use Rattle.prefix_lines.proofs.write_shape.Statement.{statement}
 use Rattle.prefix_lines.proofs.write_shape.Tie as tie
@@ -87,7 +89,7 @@ returns-3 c =
     let at-table = at-write-with .before .before .before in
     let d = at-table .before .before .before in
     let a = begin d .args in
-    drawn-answer (a .frame) (a .shape) (a .renderer) (a .mark) (a .out .now) (marked d) (d .before .if2 .left) _ _ (d .drawing-of .ensures) (ascii-holds (at-table .ascii-table .result) (a .renderer) (a .mark) (at-table .before .enum-told .given .1) (at-table .ascii-table .ensures)) (at-write-with .write-with .ensures)
+    drawn-answer (a .frame) (a .shape) (a .renderer) (a .mark) (a .out .now) (marked d) (d .before .if2 .left) _ _ (d .drawing-of .ensures) (ascii-tables (glyphsOf (a .renderer)) (a .renderer) (a .mark) (at-table .ascii-table .result) (at-table .before .enum-told .given .1) (at-table .ascii-table .ensures)) (at-write-with .write-with .ensures)
 
 same-length-2 : tie.Need-same-length-2
 same-length-2 c = search needs
@@ -98,7 +100,7 @@ returns-4 c =
     let at-table = at-write-with .before .before .before in
     let d = at-table .before .before .before in
     let a = begin d .args in
-    drawn-answer (a .frame) (a .shape) (a .renderer) (a .mark) (a .out .now) (marked d) (d .before .if2 .left) _ _ (d .drawing-of .ensures) (large-holds (at-table .large-table .result) (a .renderer) (a .mark) (at-table .before .enum-told2 .given .1) (at-table .large-table .ensures)) (at-write-with .write-with2 .ensures)
+    drawn-answer (a .frame) (a .shape) (a .renderer) (a .mark) (a .out .now) (marked d) (d .before .if2 .left) _ _ (d .drawing-of .ensures) (large-tables (glyphsOf (a .renderer)) (a .renderer) (a .mark) (at-table .large-table .result) (at-table .before .enum-told2 .given .1) (at-table .large-table .ensures)) (at-write-with .write-with2 .ensures)
 
 same-length-3 : tie.Need-same-length-3
 same-length-3 c = search needs
@@ -109,7 +111,7 @@ returns-5 c =
     let at-table = at-write-with .before .before .before in
     let d = at-table .before .before in
     let a = begin d .args in
-    drawn-answer (a .frame) (a .shape) (a .renderer) (a .mark) (a .out .now) (marked d) (d .before .if2 .left) _ _ (d .drawing-of .ensures) (set-holds (at-table .box-table .result) (a .renderer) (a .mark) (at-table .before .match .keys3) (at-table .box-table .ensures)) (at-write-with .write-with3 .ensures)
+    drawn-answer (a .frame) (a .shape) (a .renderer) (a .mark) (a .out .now) (marked d) (d .before .if2 .left) _ _ (d .drawing-of .ensures) (box-tables (glyphsOf (a .renderer)) (a .renderer) (a .mark) (at-table .box-table .result) (at-table .before .match .keys3) (at-table .box-table .ensures)) (at-write-with .write-with3 .ensures)
 
 pub write-shape-spec : {M : Type 1} → statement M
 write-shape-spec =

@@ -7,7 +7,8 @@ use Rattle.glyphs.specs.declared.Renderer.the-variants.{Ascii, AsciiLarg
 use Rattle.glyphs.specs.declared.Renderer.{Renderer}
 use Rattle.glyphs.specs.Cells.{glyphsOf}
 use Rattle.glyphs.specs.Tables.{placed, glyphAt, boxTable}
-use Rattle.glyphs.proofs.TableLaws.{counted, holds}
+use Rattle.glyphs.proofs.CountedLaws.{counted}
+use Rattle.glyphs.proofs.TableLaws.{holds}
 use borrow.Author.Needs.{needs}
 use Rattle.glyphs.proofs.box_drawing.glyphs.Statement.{statement}
 use Rattle.glyphs.proofs.box_drawing.glyphs.Tie as tie

@@ -1,5 +1,8 @@
 -- A link line's choice.
+use lib.Dec.{lit≤}
+use Rattle.glyphs.specs.LinkTable.{named}
 use Rattle.glyphs.proofs.BoxLaws.{box-link}
+use Rattle.glyphs.proofs.TableLaws.{large-link-small}
 use borrow.Author.Needs.{needs}
 use Rattle.glyphs.proofs.choice.link_choice.Statement.{statement}
 use Rattle.glyphs.proofs.choice.link_choice.Tie as tie
@@ -23,15 +26,17 @@ link-glyph-requires : tie.Need-link-glyph-requires
 link-glyph-requires c κs = search needs
 
 returns : tie.Need-returns
-returns c = rw (c .before .before .enum-told .given .1, ← c .before .link-upright .ensures, ← c .link-connection .ensures)
+returns c = (rw (c .before .before .enum-told .given .1, ← c .before .link-upright .ensures, ← c .link-connection .ensures), lit≤ tt)
 
 returns-2 : tie.Need-returns-2
-returns-2 c = rw (c .before .enum-told2 .given .1) (c .top .ensures)
+returns-2 c =
+    let a = c .before .before .before .before .before .before .before .args in
+    (rw (c .before .enum-told2 .given .1) (c .top .ensures), rw (c .top .ensures) (large-link-small (a .row) (a .place)))
 
 returns-3 : tie.Need-returns-3
 returns-3 c =
-    let a = c .before .before .before .before .before .args in
-    rw (box-link (a .renderer) (a .row) (a .place) (c .before .match .keys3), ← c .link-glyph .ensures)
+    let a = c .before .before .before .before .before .before .args in
+    (rw (box-link (named (a .table .now)) (a .renderer) (a .row) (a .place) (c .before .match .keys3), ← c .link-glyph .ensures .0), c .link-glyph .ensures .1)
 
 pub link-choice-spec : {M : Type 1} → statement M
 link-choice-spec =

@@ -17,15 +17,16 @@ number-of-requires c κs = search needs
 
 cast-result : tie.Need-cast-result
 cast-result c =
-    let a = c .before .before .args in
-    let e = c .number-of .ensures ∙ ap (numberOf (a .renderer) (a .row .«dash_style») (a .place .index)) (c .before .link-line-choice .ensures) in
-    let h : c .number-of .result < 256 = omega (arith, e, number-small (a .renderer) (a .row) (a .line) (a .place)) in
+    let a = c .before .before .before .args in
+    let choice = c .before .link-line-choice in
+    let e = number-small (a .renderer) (a .row .«dash_style») (a .place .index) (choice .result) (choice .ensures .1) in
+    let h : c .number-of .result < 256 = omega (arith, c .number-of .ensures, e) in
     fits-under w8 (c .number-of .result) 256 h tt
 
 returns : tie.Need-returns
 returns c =
-    let a = c .before .before .args in
-    c .number-of .ensures ∙ ap (numberOf (a .renderer) (a .row .«dash_style») (a .place .index)) (c .before .link-line-choice .ensures)
+    let a = c .before .before .before .args in
+    c .number-of .ensures ∙ ap (numberOf (a .renderer) (a .row .«dash_style») (a .place .index)) (c .before .link-line-choice .ensures .0)
 
 pub link-number-spec : {M : Type 1} → statement M
 link-number-spec =

@@ -3,7 +3,8 @@ use mathlib.Core.Path.{sym, ap, _∙_}
 use native.Mathlib.Omega.{arith}
 use lib.ListN.{length}
 use borrow.Author.Tests.{not-true, not-false}
-use Rattle.prefix_lines.proofs.LineLaws.{absent, line-counted, chosen-all, few-counted}
+use Rattle.glyphs.proofs.ChoiceLaws.{chosen-all}
+use Rattle.prefix_lines.proofs.LineLaws.{absent, line-counted, few-counted}
 use borrow.Author.Needs.{needs}
 use Rattle.prefix_lines.proofs.length.line_length.Statement.{statement}
 use Rattle.prefix_lines.proofs.length.line_length.Tie as tie

@@ -9,7 +9,8 @@ use borrow.Author.Tests.{not-true, not-false}
 use Rattle.glyphs.specs.Cells.{isPresent}
 use Rattle.glyphs.specs.Tables.{firstCells, numbersIn}
 use Rattle.prefix_lines.specs.Inner.{closing}
-use Rattle.prefix_lines.proofs.LineLaws.{back, absent, chosen-all, opening-fits, start-fits, end-fits, end-within, closing-fits, line-done}
+use Rattle.glyphs.proofs.ChoiceLaws.{chosen-all}
+use Rattle.prefix_lines.proofs.LineLaws.{back, absent, opening-fits, start-fits, end-fits, end-within, closing-fits, line-done}
 use borrow.Author.Needs.{needs}
 use Rattle.prefix_lines.proofs.writer.write_line.Statement.{statement}
 use Rattle.prefix_lines.proofs.writer.write_line.Tie as tie
@@ -34,7 +35,7 @@ begun w =
 
 -- each cell's number was chosen
 chosen : (w : tie.After-write-opening)
-    → (let h = chosen-at w in let a = begin (h .before .before) .args in firstCells (h .choose-cells .result) (h .choose-cells .last .0) ≡ numbersIn (a .drawing) (a .line))
+    → (let h = chosen-at w in let a = begin (h .before .before) .args in firstCells (h .choose-cells .result) (h .choose-cells .last .0) ≡ numbersIn (a .table .now) (a .drawing) (a .line))
 chosen w = let h = chosen-at w in chosen-all (h .choose-cells .ensures) (begin (h .before .before) .pre .0)
 
 -- then the cells

@@ -1,9 +1,7 @@
 -- The text state after a row whose foot line waits.
-use mathlib.Core.Path.{_∙_}
-use lib.Seq.{take-all}
-use Rattle.glyphs.specs.declared.types.Line.the-variants.{PostAncestry}
-use Rattle.glyphs.specs.Tables.{numbersIn}
+use mathlib.Core.Path.{refl}
 use Rattle.glyphs.proofs.CellsLaws.{cells-few}
+use Rattle.glyphs.proofs.ChoiceLaws.{chosen-all}
 use Rattle.output.proofs.PutLaws.{queue-long}
 use Rattle.text.proofs.RowTextLaws.{foot-queued}
 use borrow.Author.Needs.{needs}
@@ -35,7 +33,7 @@ returns c =
     let start = at-choose-cells .before .before .before .before in
     let a = start .args in
     let d = at-choose-cells .choose-cells in
-    foot-queued (a .table .now) (a .drawing) (a .state .«queued_pad_line») _ _ _ _ (queue-long (a .state .«queued_pad_line») _ (start .good .1 .1 .1 .0 .1 .1 .0 .1 .0 .1)) (cells-few (a .table .now) (d .last .0) (d .result)) (d .ensures .chosen ∙ take-all 64 (numbersIn (a .drawing) PostAncestry) (d .ensures .few)) (at-write-cells .write-cells .ensures)
+    foot-queued (a .table .now) (a .drawing) (a .state .«queued_pad_line») _ _ _ _ (queue-long (a .state .«queued_pad_line») _ (start .good .1 .1 .1 .0 .1 .1 .0 .1 .0 .1)) (cells-few (a .table .now) (d .last .0) (d .result)) (chosen-all (d .ensures) refl) (at-write-cells .write-cells .ensures)
 
 pub queue-foot-line-spec : {M : Type 1} → statement M
 queue-foot-line-spec =

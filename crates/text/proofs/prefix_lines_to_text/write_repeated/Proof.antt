@@ -5,7 +5,7 @@ use Prim.Native.Nat.{ℕ, _<_, _≤_, _-_}
 use native.Mathlib.Omega.{arith}
 use lib.ListN.{length, replicate}
 use Rattle.glyphs.specs.Tables.{cellsText, firstCells}
-use Rattle.text.proofs.RepeatLaws.{Writing, part-within, row-none, first-fits, first-written, again-asked, again-written, some}
+use Rattle.text.proofs.RepeatLaws.{Writing, part-within, first-fits, first-written, again-asked, again-written}
 use borrow.Author.Needs.{needs}
 use Rattle.text.proofs.prefix_lines_to_text.write_repeated.Statement.{statement}
 use Rattle.text.proofs.prefix_lines_to_text.write_repeated.Tie as tie
@@ -24,7 +24,7 @@ abbrev first-end : tie.After-next-start Inv-loop μ-loop → tie.After-line-end 
 first-end c = c .before .before .before .before .before .before
 
 abbrev start : tie.After-line-end Inv-loop μ-loop → tie.Start Inv-loop μ-loop
-start c = c .before .before .before .before .before .before
+start c = c .before .before .before .before .before
 
 -- the prefix line
 abbrev line : tie.Start Inv-loop μ-loop → List ℕ
@@ -60,11 +60,6 @@ next-within : (c : tie.After-line-end2 Inv-loop μ-loop)
 next-within c =
     part-within (start (first-end (behind-first (c .before))) .args .message .now) (c .before .before .loop .next) (c .line-end2 .result) (so-far (c .before) .rows .within) (c .line-end2 .ensures)
 
-returns : tie.Need-returns Inv-loop μ-loop
-returns c =
-    let s = c .before .before .before .before .before in
-    rw (c .if1 .taken) (row-none (s .args .message .now) (s .args .start) (s .args .out .now) (s .pre .0 .1))
-
 line-end-requires : tie.Need-line-end-requires Inv-loop μ-loop
 line-end-requires c κs = search needs
 
@@ -81,7 +76,7 @@ write-text-line-requires : tie.Need-write-text-line-requires Inv-loop μ-loop
 write-text-line-requires c κs =
     let e = c .before .before in
     let s = start e in
-    first-fits (s .args .message .now) (s .args .start) (s .args .out .now) (line s) (s .args .times) (e .line-end .result) (s .pre .1) (e .before .if1 .left) (e .line-end .ensures)
+    first-fits (s .args .message .now) (s .args .start) (s .args .out .now) (line s) (s .args .times) (e .line-end .result) (s .pre .1) (s .pre .0 .2) (e .line-end .ensures)
 
 next-start-requires : tie.Need-next-start-requires Inv-loop μ-loop
 next-start-requires c κs = search needs
@@ -89,8 +84,8 @@ next-start-requires c κs = search needs
 same-length : tie.Need-same-length Inv-loop μ-loop
 same-length c = first-done (c .before) .same
 
-returns-2 : tie.Need-returns-2 Inv-loop μ-loop
-returns-2 c = rw (c .if2 .taken) (first-done (c .before) .rows)
+returns : tie.Need-returns Inv-loop μ-loop
+returns c = rw (c .if1 .taken) (first-done (c .before) .rows)
 
 lengths-of-requires : tie.Need-lengths-of-requires Inv-loop μ-loop
 lengths-of-requires c κs = search needs
@@ -98,7 +93,7 @@ lengths-of-requires c κs = search needs
 loop-holds : tie.Need-loop-holds Inv-loop μ-loop
 loop-holds c =
     let e = first-end (c .before .before) in
-    (search needs, some (start e .args .times) (e .before .if1 .left), λ b g. g)
+    (search needs, start e .pre .0 .2, λ b g. g)
 
 line-end-requires-2 : tie.Need-line-end-requires-2 Inv-loop μ-loop
 line-end-requires-2 c κs = search needs
@@ -145,7 +140,7 @@ next-start-requires-2 c κs = search needs
 add-i : tie.Need-add-i Inv-loop μ-loop
 add-i c =
     let i = c .before .before .before .before .before .before .before .before .before in
-    omega (arith, i .loop-test .taken, start (first-end (behind-first i)) .pre .0 .2)
+    omega (arith, i .loop-test .taken, start (first-end (behind-first i)) .pre .0 .3)
 
 loop-less : tie.Need-loop-less Inv-loop μ-loop
 loop-less c = search needs
@@ -170,8 +165,8 @@ same-length-2 c =
     let f = c .before .before .before .before in
     l .inv .2 (start (first-end f) .args .out .now) (first-done f) .same
 
-returns-3 : tie.Need-returns-3 Inv-loop μ-loop
-returns-3 c =
+returns-2 : tie.Need-returns-2 Inv-loop μ-loop
+returns-2 c =
     let l = c .before .loop in
     let f = c .before .before .before .before in
     let e : l .i ≡ start (first-end f) .args .times = omega (arith, l .inv .1) in
@@ -183,7 +178,6 @@ write-repeated-spec =
     (tie.spec
     Inv-loop
     μ-loop
-    returns
     line-end-requires
     sub-write-text-line
     part-write-text-line-start
@@ -191,7 +185,7 @@ write-repeated-spec =
     write-text-line-requires
     next-start-requires
     same-length
-    returns-2
+    returns
     lengths-of-requires
     loop-holds
     line-end-requires-2
@@ -206,4 +200,4 @@ write-repeated-spec =
     loop-less
     loop-again
     same-length-2
-    returns-3)
+    returns-2)

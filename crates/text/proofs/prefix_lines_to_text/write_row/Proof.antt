@@ -1,7 +1,7 @@
 -- Writes a row's lines with its message, the glyphs of each chosen once.
 use mathlib.Core.Path.{_≡_, refl, ap, _∙_}
 use mathlib.Core.List.{List, map}
-use Prim.Native.Nat.{ℕ, _+_, _-_, _<_, _≤_, zero-le}
+use Prim.Native.Nat.{ℕ, _+_, _-_, _≤_, zero-le}
 use native.Mathlib.Omega.{arith}
 use lib.ListN.{length, take, drop, replicate}
 use Rattle.column.specs.Columns.{columnLimit}
@@ -9,9 +9,10 @@ use Rattle.glyphs.specs.declared.types.Line.{Line}
 use Rattle.glyphs.specs.declared.types.Line.the-variants.{PostAncestry}
 use Rattle.glyphs.specs.Cells.{allLines}
 use Rattle.glyphs.specs.Tables.{numbersIn, cellsText, firstCells}
+use Rattle.glyphs.proofs.ChoiceLaws.{chosen-all}
 use Rattle.output.specs.Output.{textOf}
 use Rattle.text.specs.Inner.{drawn, spread, lineTimes}
-use Rattle.text.proofs.RepeatLaws.{Writing, row-none, plan-short, next-fits, next-written}
+use Rattle.text.proofs.RepeatLaws.{Writing, row-none, plan-short, some, none-more, next-fits, next-written}
 use borrow.Author.Needs.{needs}
 use Rattle.text.proofs.prefix_lines_to_text.write_row.Statement.{statement}
 use Rattle.text.proofs.prefix_lines_to_text.write_row.Tie as tie
@@ -23,7 +24,7 @@ size = length
 abbrev Inv-loop : tie.InvT-loop
 Inv-loop out₀ table drawing plan message renderer row numbers₀ length₀ measure₀ next₀ k₀ out numbers length measure next k =
     (k ≤ 9) × (size numbers ≡ columnLimit)
-    × Writing message 0 out₀ (map (λ (l : Line). cellsText table (numbersIn drawing l)) (spread (lineTimes plan renderer row) (take k allLines))) out
+    × Writing message 0 out₀ (map (λ (l : Line). cellsText table (numbersIn table drawing l)) (spread (lineTimes plan renderer row) (take k allLines))) out
     (record { length = length; measure = measure; next = next })
 
 abbrev μ-loop : tie.MeasureT-loop
@@ -33,31 +34,34 @@ abbrev μ-loop : tie.MeasureT-loop
 abbrev start : tie.In-loop Inv-loop μ-loop → tie.Start Inv-loop μ-loop
 start c = c .before .before .before .before .before .before
 
-abbrev looped : tie.After-choose-line Inv-loop μ-loop → tie.In-loop Inv-loop μ-loop
-looped c = c .before .before .before .before
+abbrev timed : tie.After-choose-cells Inv-loop μ-loop → tie.After-times Inv-loop μ-loop
+timed c = c .before .before .before
+
+abbrev looped : tie.After-choose-cells Inv-loop μ-loop → tie.In-loop Inv-loop μ-loop
+looped c = timed c .before .before
 
 -- the prefix line of each line, and how often it is written
 abbrev prefixOf : tie.Start Inv-loop μ-loop → Line → List ℕ
-prefixOf s l = cellsText (s .args .table .now) (numbersIn (s .args .drawing) l)
+prefixOf s l = cellsText (s .args .table .now) (numbersIn (s .args .table .now) (s .args .drawing) l)
 
 abbrev timesOf : tie.Start Inv-loop μ-loop → Line → ℕ
 timesOf s = lineTimes (s .args .plan) (s .args .drawing .renderer) (s .args .drawing .row)
 
 -- the prefix line that was chosen
-abbrev chosen : tie.After-choose-line Inv-loop μ-loop → List ℕ
-chosen c = cellsText (start (looped c) .args .table .now) (firstCells (c .choose-line .result) (c .choose-line .last .0))
+abbrev chosen : tie.After-choose-cells Inv-loop μ-loop → List ℕ
+chosen c = cellsText (start (looped c) .args .table .now) (firstCells (c .choose-cells .result) (c .choose-cells .last .0))
 
-drew : (c : tie.After-choose-line Inv-loop μ-loop) → 0 < c .before .before .times .result → chosen c ≡ prefixOf (start (looped c)) (c .before .before .before .line-at .result)
-drew c h = ap (cellsText (start (looped c) .args .table .now)) (c .choose-line .ensures .1 h)
+drew : (c : tie.After-choose-cells Inv-loop μ-loop) → chosen c ≡ prefixOf (start (looped c)) (timed c .before .line-at .result)
+drew c = ap (cellsText (start (looped c) .args .table .now)) (chosen-all (c .choose-cells .ensures) (looped c .before .loop .inv .1))
 
 -- its lines fit behind those before
-fits : (c : tie.After-choose-line Inv-loop μ-loop)
-    → (looped c .before .loop .length + length (textOf (drawn (replicate (c .before .before .times .result) (chosen c)) (drop (looped c .before .loop .next) (start (looped c) .args .message .now))))
+fits : (c : tie.After-choose-cells Inv-loop μ-loop)
+    → (looped c .before .loop .length + length (textOf (drawn (replicate (timed c .times .result) (chosen c)) (drop (looped c .before .loop .next) (start (looped c) .args .message .now))))
     ≤ length (looped c .before .loop .out))
-    × (length (textOf (drawn (replicate (c .before .before .times .result) (chosen c)) (drop (looped c .before .loop .next) (start (looped c) .args .message .now))))
+    × (length (textOf (drawn (replicate (timed c .times .result) (chosen c)) (drop (looped c .before .loop .next) (start (looped c) .args .message .now))))
     ≤ length (take (length (looped c .before .loop .out) - looped c .before .loop .length) (drop (looped c .before .loop .length) (looped c .before .loop .out))))
 fits c =
-    let t = c .before .before in
+    let t = timed c in
     let e = t .before in
     let i = looped c in
     let l = i .before .loop in
@@ -76,11 +80,30 @@ line-at-requires c κs = search needs
 times-requires : tie.Need-times-requires Inv-loop μ-loop
 times-requires c κs = search needs
 
-slice-aggregate-choose-line : tie.Need-slice-aggregate-choose-line Inv-loop μ-loop
-slice-aggregate-choose-line c = search needs
+add-k : tie.Need-add-k Inv-loop μ-loop
+add-k c = search needs
 
-choose-line-requires : tie.Need-choose-line-requires Inv-loop μ-loop
-choose-line-requires c κs = c .before .before .before .before .loop .inv .1
+loop-less : tie.Need-loop-less Inv-loop μ-loop
+loop-less c = search needs
+
+loop-again : tie.Need-loop-again Inv-loop μ-loop
+loop-again c =
+    let t = c .before in
+    let e = t .before in
+    let i = e .before in
+    let l = i .before .loop in
+    let s = start i in
+    let h = i .loop-test .taken in (
+      omega (arith, h),
+      l .inv .1,
+      rw (none-more (prefixOf s) (timesOf s) allLines (l .k) PostAncestry (omega (arith, h)) (e .line-at .result) (t .times .result) (e .line-at .ensures) (t .times .ensures) (c .if1 .taken)) (l .inv .2),
+    )
+
+slice-aggregate-choose-cells : tie.Need-slice-aggregate-choose-cells Inv-loop μ-loop
+slice-aggregate-choose-cells c = search needs
+
+choose-cells-requires : tie.Need-choose-cells-requires Inv-loop μ-loop
+choose-cells-requires c κs = search needs
 
 sub-write-repeated : tie.Need-sub-write-repeated Inv-loop μ-loop
 sub-write-repeated c = omega (arith, fits (c .before) .0)
@@ -97,10 +120,10 @@ slice-aggregate-write-repeated c = search needs
 write-repeated-requires : tie.Need-write-repeated-requires Inv-loop μ-loop
 write-repeated-requires c κs =
     let d = c .before .before .before in
-    let t = d .before .before in
+    let t = timed d in
     let i = looped d in
     let s = start i in (
-      (s .pre .0 .0, i .before .loop .inv .2 .rows .within, rw (t .times .ensures) (plan-short (s .args .plan) (s .args .drawing .renderer) (s .args .drawing .row) (s .pre .0 .1) (t .before .line-at .result))),
+      (s .pre .0 .0, i .before .loop .inv .2 .rows .within, some (t .times .result) (d .before .before .if1 .left), rw (t .times .ensures) (plan-short (s .args .plan) (s .args .drawing .renderer) (s .args .drawing .row) (s .pre .0 .1) (t .before .line-at .result))),
       fits d .1,
     )
 
@@ -109,31 +132,31 @@ add-length c =
     let w = c .before .before .before in
     let d = w .before .before .before .before in
     let i = looped d in
-    let n : w .write-repeated .result .length ≡ length (textOf (drawn (replicate (d .before .before .times .result) (chosen d)) (drop (i .before .loop .next) (start i .args .message .now)))) = w .write-repeated .ensures .count in
+    let n : w .write-repeated .result .length ≡ length (textOf (drawn (replicate (timed d .times .result) (chosen d)) (drop (i .before .loop .next) (start i .args .message .now)))) = w .write-repeated .ensures .count in
     let m : length (i .before .loop .out) ≡ length (start i .args .out .now) = i .before .loop .inv .2 .same in
     omega (arith, start i .good .0, m, n, fits d .0)
 
 greater-requires : tie.Need-greater-requires Inv-loop μ-loop
 greater-requires c κs = search needs
 
-add-k : tie.Need-add-k Inv-loop μ-loop
-add-k c = search needs
+add-k-2 : tie.Need-add-k-2 Inv-loop μ-loop
+add-k-2 c = search needs
 
-loop-less : tie.Need-loop-less Inv-loop μ-loop
-loop-less c = search needs
+loop-less-2 : tie.Need-loop-less-2 Inv-loop μ-loop
+loop-less-2 c = search needs
 
-loop-again : tie.Need-loop-again Inv-loop μ-loop
-loop-again c =
+loop-again-2 : tie.Need-loop-again-2 Inv-loop μ-loop
+loop-again-2 c =
     let w = c .before .before .before .before in
     let d = w .before .before .before .before in
-    let t = d .before .before in
+    let t = timed d in
     let e = t .before in
     let i = looped d in
     let l = i .before .loop in
     let s = start i in
     let h = i .loop-test .taken in (
       omega (arith, h),
-      d .choose-line .kept .0 ∙ l .inv .1,
+      d .choose-cells .kept .0 ∙ l .inv .1,
       next-written (prefixOf s) (timesOf s) allLines (l .k) PostAncestry (omega (arith, h)) (e .line-at .result) (t .times .result) (e .line-at .ensures) (t .times .ensures) (chosen d) (drew d)
           (s .args .message .now) (s .args .out .now) (l .out) _ (l .inv .2) (s .pre .1) _ (w .write-repeated .result) _ (w .write-repeated .ensures) (w .write-repeated .kept .0) refl (c .greater .ensures) refl,
     )
@@ -157,8 +180,11 @@ write-row-spec =
     loop-holds
     line-at-requires
     times-requires
-    slice-aggregate-choose-line
-    choose-line-requires
+    add-k
+    loop-less
+    loop-again
+    slice-aggregate-choose-cells
+    choose-cells-requires
     sub-write-repeated
     part-write-repeated-start
     part-write-repeated-end
@@ -166,8 +192,8 @@ write-row-spec =
     write-repeated-requires
     add-length
     greater-requires
-    add-k
-    loop-less
-    loop-again
+    add-k-2
+    loop-less-2
+    loop-again-2
     same-length
     returns)

@@ -1,13 +1,12 @@
 -- Writes a row's text, if the output has room for it (`write_next_text`).
-use mathlib.Core.Path.{_≡_, sym, ap, _∙_}
-use mathlib.Core.List.{List, []}
+use mathlib.Core.Path.{_≡_}
+use mathlib.Core.List.{List}
 use Prim.Native.Nat.{ℕ, _≤_}
-use lib.ListN.{length, getD}
+use lib.ListN.{length}
 use Rattle.column.specs.Columns.{columnLimit}
-use Rattle.glyphs.specs.declared.Renderer.{Renderer}
 use Rattle.glyphs.specs.Cells.{glyphsOf}
-use Rattle.glyphs.specs.Tables.{Tables, tableOf}
-use Rattle.glyphs.proofs.BoxLaws.{box-holds}
+use Rattle.glyphs.specs.Tables.{Tables}
+use Rattle.glyphs.proofs.BoxLaws.{box-tables, ascii-tables, large-tables}
 use Rattle.message.specs.Message.{messageLimit}
 use Rattle.output.specs.Output.{textViewOf}
 use Rattle.text.specs.declared.prefix_lines_to_text.RowText.{RowText}
@@ -37,7 +36,7 @@ small c =
     plan-small (a .state) (a .renderer) (a .shape) (a .mark) (a .message .now) (a .height) (drawn c .drawing-of .result) (drawn c .drawing-of .ensures) (counted c .line-count .result) (counted c .line-count .ensures)
     (c .plan-of .result) (c .plan-of .ensures) (s .pre .0) (s .pre .1) (s .pre .2)
 
--- and what it gives, for a table that holds the renderer's glyphs
+-- and what it gives, for the renderer's own table
 done : (c : tie.After-plan-of) (table : List ℕ) → Tables table (glyphsOf (start c .args .renderer)) (start c .args .renderer) (start c .args .mark) → (before after : List ℕ) (r : RowText)
     → RowWith table (drawn c .drawing-of .result) (c .plan-of .result) (start c .args .message .now) (textViewOf (start c .args .state)) (start c .args .shape .«separator_line») before after r
     → RowTexts (textViewOf (start c .args .state)) (start c .args .renderer) (start c .args .shape) (start c .args .mark) (start c .args .message .now) (start c .args .height) before after r
@@ -96,8 +95,8 @@ returns c =
     let w = c .before .before in
     let t = w .before .before .before in
     let p = t .before .before .before in
-    let q = t .before .enum-told .given .1 in
-    done p _ (λ n. t .ascii-table .ensures n ∙ ap (λ (r : Renderer). getD (tableOf (glyphsOf (start p .args .renderer)) r (start p .args .mark)) n []) (sym q)) _ _ (w .write-with .result) (w .write-with .ensures)
+    let a = start p .args in
+    done p _ (ascii-tables (glyphsOf (a .renderer)) (a .renderer) (a .mark) (t .ascii-table .result) (t .before .enum-told .given .1) (t .ascii-table .ensures)) _ _ (w .write-with .result) (w .write-with .ensures)
 
 same-length-2 : tie.Need-same-length-2
 same-length-2 c = search needs
@@ -107,8 +106,8 @@ returns-2 c =
     let w = c .before .before in
     let t = w .before .before .before in
     let p = t .before .before .before in
-    let q = t .before .enum-told2 .given .1 in
-    done p _ (λ n. t .large-table .ensures n ∙ ap (λ (r : Renderer). getD (tableOf (glyphsOf (start p .args .renderer)) r (start p .args .mark)) n []) (sym q)) _ _ (w .write-with2 .result) (w .write-with2 .ensures)
+    let a = start p .args in
+    done p _ (large-tables (glyphsOf (a .renderer)) (a .renderer) (a .mark) (t .large-table .result) (t .before .enum-told2 .given .1) (t .large-table .ensures)) _ _ (w .write-with2 .result) (w .write-with2 .ensures)
 
 same-length-3 : tie.Need-same-length-3
 same-length-3 c = search needs
@@ -119,7 +118,7 @@ returns-3 c =
     let t = w .before .before .before in
     let p = t .before .before in
     let a = start p .args in
-    done p _ (λ n. t .box-table .ensures n ∙ ap (λ (ls : List (List ℕ)). getD ls n []) (sym (box-holds (glyphsOf (a .renderer)) (a .renderer) (a .mark) (t .before .match .keys3)))) _ _ (w .write-with3 .result) (w .write-with3 .ensures)
+    done p _ (box-tables (glyphsOf (a .renderer)) (a .renderer) (a .mark) (t .box-table .result) (t .before .match .keys3) (t .box-table .ensures)) _ _ (w .write-with3 .result) (w .write-with3 .ensures)
 
 pub write-row-text-spec : {M : Type 1} → statement M
 write-row-text-spec =
