@@ -11,6 +11,7 @@ use crate::column::Column;
 use crate::machine::Answer;
 use crate::machine::Machine;
 use crate::machine::Output;
+use crate::measure::measure;
 use crate::records::Record;
 use crate::render::Ancestor;
 use crate::render::LinkLine;
@@ -51,8 +52,9 @@ fn lines(machine: &Machine, answer: &Answer, out: &mut Vec<u8>) {
             line(out, &format!("renderer {number} {}", written.length));
             output(out, written);
         }
-        Answer::Text(number, written, measure) => {
-            line(out, &format!("text {number} {} {measure}", written.length));
+        Answer::Text(number, written, lines) => {
+            let (length, measure) = (written.length, measure(lines));
+            line(out, &format!("text {number} {length} {measure}"));
             output(out, written);
             shaper(out, &machine.shaper);
             state(out, &machine.state);

@@ -100,7 +100,7 @@ pub struct Written {
     pub shaper: Shaper,
     pub state: TextState,
     pub text: Vec<u8>,
-    pub measure: usize,
+    pub line_lengths: Vec<usize>,
 }
 
 /// The shaper that a refused new shaper call gives.
@@ -208,7 +208,7 @@ pub fn text(shaper: &Shaper, state: &TextState, call: &Text) -> Result<Written, 
         &glyph(call.drawing.mark),
         &String::from_utf8_lossy(&call.message),
     );
-    let measure = measure(&out);
+    let line_lengths = line_lengths(&out);
     let mut text = out.into_bytes();
     state.put_back(&mut text);
     let (shaper, stage) = renderer.into_parts();
@@ -216,7 +216,7 @@ pub fn text(shaper: &Shaper, state: &TextState, call: &Text) -> Result<Written, 
         shaper,
         state: TextState::from_crate(stage.into_state()),
         text,
-        measure,
+        line_lengths,
     })
 }
 
@@ -229,9 +229,9 @@ fn text_renderer(shaper: &Shaper, state: &TextState, code: u8) -> GraphTextRende
     )
 }
 
-/// The byte length, line end not counted, of the longest line of a text.
-fn measure(text: &str) -> usize {
-    text.split('\n').map(str::len).max().unwrap_or(0)
+/// How many bytes each line has that the crate has ended. A line end of the queued line's own has a stand-in and ends none.
+fn line_lengths(text: &str) -> Vec<usize> {
+    text.split_terminator('\n').map(str::len).collect()
 }
 
 /// The shaper set by hand: a count above 64 is read as 64, slots not given are Empty.

@@ -7,6 +7,7 @@ mod growing;
 mod hand_made;
 mod histories;
 mod long_lists;
+mod pieces;
 mod previews;
 mod record_calls;
 mod values;

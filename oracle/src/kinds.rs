@@ -20,6 +20,10 @@ pub enum Kind {
     QueuedLength,
     QueuedByte,
     QueuedSpace,
+    QueuedBox,
+    QueuedShift,
+    QueuedBegun,
+    OtherLongest,
     RendererLengths,
     TextLengths,
     PreviewColumn,
@@ -105,6 +109,26 @@ pub const OF_LISTS: &[(Kind, usize, &str)] = &[
         Kind::QueuedSpace,
         5,
         "queued bytes 09 to 0D, which are white space, by byte",
+    ),
+    (
+        Kind::QueuedBox,
+        18,
+        "queued lines with a box character, by character",
+    ),
+    (
+        Kind::QueuedShift,
+        2,
+        "queued lines with a shift sequence, by sequence",
+    ),
+    (
+        Kind::QueuedBegun,
+        6,
+        "bytes of queued lines that begin a box character or a shift sequence and do not complete it, by these bytes",
+    ),
+    (
+        Kind::OtherLongest,
+        2,
+        "text calls whose longest line by bytes is not the one with most cells, by whether a queued line set by hand is written",
     ),
     (
         Kind::RendererLengths,

@@ -9,6 +9,8 @@ use crate::calls::Shaper;
 use crate::calls::TextState;
 use crate::codes;
 use crate::kinds::Kinds;
+use crate::measure;
+use crate::measure::Line;
 use crate::records;
 use crate::records::Record;
 use crate::refusals;
@@ -35,7 +37,7 @@ pub enum Answer {
     Preview(u8, Previewed),
     Width(u8, u64),
     Renderer(u8, Output),
-    Text(u8, Output, usize),
+    Text(u8, Output, Vec<Line>),
     Record(u8, Option<Record>),
     Shaper,
     State,
@@ -285,12 +287,13 @@ impl Machine {
             output.write(&written.text)?;
             Ok(written)
         }));
-        let measure = after.as_ref().map_or(0, |written| written.measure);
+        let mut lines = Vec::new();
         if let Some(written) = after {
             self.shaper = written.shaper;
             self.state = written.state;
+            lines = measure::lines(&written.text, &written.line_lengths);
         }
-        Answer::Text(number, output, measure)
+        Answer::Text(number, output, lines)
     }
 
     /// Quiet repeat; an `X` within it is skipped.

@@ -12,6 +12,8 @@ mod kinds;
 mod lengths;
 mod machine;
 mod marked;
+mod measure;
+mod measured_lines;
 mod programs;
 mod random;
 mod record_bytes;

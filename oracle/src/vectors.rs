@@ -1,4 +1,5 @@
-//! The vector stream: the marked rows, the format, lists of every length, record calls at their limits, and a sample of generated lists.
+//! The vector stream: the marked rows, the format, lists of every length, record calls at their limits, queued lines measured in cells, and a
+//! sample of generated lists.
 
 use std::collections::BTreeMap;
 use std::collections::BTreeSet;
@@ -7,6 +8,7 @@ use crate::answering::answered;
 use crate::generator;
 use crate::lengths;
 use crate::marked;
+use crate::measured_lines;
 use crate::record_limits;
 use crate::stream::encode;
 use crate::stream::Letters;
@@ -19,6 +21,8 @@ const FORMAT_LIST: u32 = 11;
 const LENGTH_LISTS: u32 = 12;
 /// The number of the list about the limits of records.
 const RECORD_LIST: u32 = 14;
+/// The number of the list about the cells of queued lines.
+const MEASURE_LIST: u32 = 15;
 /// The letter of the record call, which works on no state.
 const RECORD: u8 = b'D';
 /// The first list number of the sample of commands that are built and work on a state.
@@ -45,6 +49,7 @@ pub fn stream(built: &Letters) -> Vec<u8> {
         stream.extend(encode(&list));
     }
     stream.extend(encode(&record_limits::list(RECORD_LIST)));
+    stream.extend(encode(&measured_lines::list(MEASURE_LIST)));
     stream.extend(sample(BUILT_LISTS, &built.without(RECORD)));
     stream.extend(sample(ALL_LISTS, &Letters::all()));
     stream.extend(marked::cut_command());

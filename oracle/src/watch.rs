@@ -1,6 +1,7 @@
 //! Tells which kinds of input the calls of a list are, from each call, the states before it and its answer.
 
 mod previews;
+mod queued_lines;
 mod record_calls;
 
 use std::collections::BTreeMap;
@@ -12,6 +13,8 @@ use crate::kinds::Kinds;
 use crate::machine::Answer;
 use crate::machine::Machine;
 use crate::machine::Output;
+use crate::measure::measure;
+use crate::measure::Line;
 use crate::records;
 use crate::refusals;
 use crate::refusals::Refusal;
@@ -33,8 +36,6 @@ const MESSAGES: RangeInclusive<usize> = 41..=510;
 const OCTOPUS: RangeInclusive<usize> = 3..=8;
 /// The numbers of columns that are nearly full.
 const NEARLY_FULL: RangeInclusive<usize> = 58..=64;
-/// The bytes of a queued line that are white space, other than the blank.
-const SPACES: RangeInclusive<u8> = 0x09..=0x0d;
 /// The greatest queued length that is looked at.
 const QUEUED: u64 = 515;
 
@@ -52,8 +53,9 @@ struct List {
     rows: usize,
     nearly_full: usize,
     waiting: BTreeMap<u32, usize>,
+    /// The length of a queued line set by hand, until it is written, and the line itself as a text call finds it.
     queued: Option<u64>,
-    odd_bytes: Vec<(Kind, u8)>,
+    line: Vec<u8>,
     lengths: Option<Lengths>,
     previews: Previews,
 }
@@ -71,10 +73,11 @@ impl Watch {
         match command {
             Command::List(_) => self.list = List::default(),
             Command::State(state) => {
-                let seen = codes::flag(state.queued) && state.length <= QUEUED;
-                self.list.queued = seen.then_some(state.length);
+                self.list.queued = codes::flag(state.queued).then_some(state.length);
             }
-            Command::Text(_) => self.list.odd_bytes = odd_bytes(machine),
+            Command::Text(_) => self.list.line = machine.state.queued.clone().unwrap_or_default(),
+            // What is repeated may write the line.
+            Command::Repeat(_) => self.list.queued = None,
             _ => {}
         }
         self.columns(machine, command);
@@ -96,11 +99,12 @@ impl Watch {
                 self.kinds
                     .add(Kind::RendererMark, usize::from(drawing.mark));
             }
-            (Command::Text(text), Answer::Text(0, ..)) => {
+            (Command::Text(text), Answer::Text(0, _, lines)) => {
                 self.row(machine, &text.row);
                 self.kinds
                     .add(Kind::TextMark, usize::from(text.drawing.mark));
                 self.message(&text.message);
+                self.lines(lines);
                 self.queue();
             }
             (Command::Record(left), Answer::Record(number, record)) => {
@@ -176,13 +180,26 @@ impl Watch {
         }
     }
 
+    /// The lines of a text call: whether none of the longest by bytes has the most cells.
+    fn lines(&mut self, lines: &[Line]) {
+        let bytes = lines.iter().map(|line| line.bytes).max();
+        let mut longest = lines.iter().filter(|line| Some(line.bytes) == bytes);
+        if longest.all(|line| line.cells < measure(lines)) {
+            let by_hand = self.list.queued.is_some();
+            self.kinds.add(Kind::OtherLongest, usize::from(by_hand));
+        }
+    }
+
     /// A queued line that was written, if it was set by hand.
     fn queue(&mut self) {
-        if let Some(length) = self.list.queued.take() {
+        let Some(length) = self.list.queued.take() else {
+            return;
+        };
+        if length <= QUEUED {
             self.kinds.add(Kind::QueuedLength, length as usize);
         }
-        for (kind, byte) in self.list.odd_bytes.drain(..) {
-            self.kinds.add(kind, usize::from(byte));
+        for (kind, value) in queued_lines::kinds(&self.list.line) {
+            self.kinds.add(kind, value);
         }
     }
 
@@ -268,19 +285,6 @@ fn ids(command: &Command) -> Vec<u32> {
     let named = entries.iter().filter(|entry| entry.kind != 0);
     node.into_iter()
         .chain(named.map(|entry| entry.id))
-        .collect()
-}
-
-/// The bytes of the queued line that are no UTF-8, and those that are white space.
-fn odd_bytes(machine: &Machine) -> Vec<(Kind, u8)> {
-    let queued = machine.state.queued.as_deref().unwrap_or_default();
-    let chunks = queued.utf8_chunks();
-    let no_utf8 = chunks
-        .flat_map(|chunk| chunk.invalid())
-        .map(|byte| (Kind::QueuedByte, *byte));
-    let spaces = queued.iter().filter(|byte| SPACES.contains(byte));
-    no_utf8
-        .chain(spaces.map(|byte| (Kind::QueuedSpace, *byte)))
         .collect()
 }
 

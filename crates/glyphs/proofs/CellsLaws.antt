@@ -12,7 +12,7 @@ use lib.Seq.{take-take, take-all, take-suc, drop-cons, drop-drop, take-append-le
 use borrow.Author.Tests.{le-leb, lt-leb, leb-true, leb-false}
 use Rattle.column.specs.Columns.{columnLimit}
 use Rattle.message.specs.Message.{trimEnd}
-use Rattle.message.proofs.MessageLaws.{trim-front, trim-behind, trim-take, trim-length}
+use Rattle.message.proofs.MessageLaws.{trim-front, trim-behind, trim-length}
 use Rattle.slices.specs.Joins.{joins, over, Writes}
 use Rattle.slices.proofs.JoinLaws.{joins-append, so-short}
 use Rattle.slices.proofs.OverLaws.{writes-all, writes-none, part-length, copied-over}
@@ -381,14 +381,12 @@ module _ (t numbers : List ℕ) (width : ℕ) (o p : List ℕ) (r : ℕ) where
       let f : take (all + behind) line ≡ line = take-all (all + behind) line (omega arith) in
       cells-written line behind o p (all + behind) r (omega arith) (omega arith) (rw f at w)
 
-  -- the finished line
-  pub finished-length : (all blanks : ℕ) → all ≡ length line → blanks ≡ length line - length (trimEnd line) → (blanks ≤ all) × (all - blanks ≡ length (trimEnd line))
-  finished-length all blanks e f = (omega (arith, e, f), omega (arith, e, f, trim-length line))
+  -- the line without so many bytes at its end
+  module _ (blanks end : ℕ) (e : end ≡ length line - blanks) where
+    pub finished-done : end ≤ length o → WritesWithin (take end line) end o p r → Writes (take (length line - blanks) line) o p r
+    finished-done h w =
+        let n : length (take end line) ≡ end = length-take-le end line (omega arith) in
+        rw (← e) (own-end (take end line) o p r (omega (arith, n)) (rw n w))
 
-  pub finished-done : (end : ℕ) → end ≡ length (trimEnd line) → end ≤ length o → WritesWithin (take end line) end o p r → Writes (trimEnd line) o p r
-  finished-done end e h w =
-      let f : take end line ≡ trimEnd line = ap (λ (i : ℕ). take i line) e ∙ trim-take line in
-      own-end (trimEnd line) o p r (omega arith) (rw (f, e) at w)
-
-  pub finished-none : (end : ℕ) → end ≡ length (trimEnd line) → length o < end → Writes (trimEnd line) o o 0
-  finished-none end e h = writes-none (trimEnd line) o o 0 (omega arith) refl refl
+    pub finished-none : length o < end → Writes (take (length line - blanks) line) o o 0
+    finished-none h = rw (← e) (writes-none (take end line) o o 0 (omega (arith, length-take-le end line (omega arith))) refl refl)

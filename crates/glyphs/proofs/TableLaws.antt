@@ -292,9 +292,9 @@ module _ (cur : LinkLine) where
 
 -- ---- the glyph by a choice's number is the choice's bytes
 -- glyph n of a list of glyphs is these bytes
-record Drawn (table : List (List ℕ)) (n : ℕ) (bs : List ℕ) : Type 0 where
-  within : n < length table
-  glyph : getD table n [] ≡ bs
+pub record Drawn (table : List (List ℕ)) (n : ℕ) (bs : List ℕ) : Type 0 where
+  pub within : n < length table
+  pub glyph : getD table n [] ≡ bs
 
 pair-drawn : (mark a b : ℕ) → Among uprights a → Among connections b → Drawn (asciiTable mark) (pairNumber a b) (two a b)
 pair-drawn mark a b h k =
@@ -371,7 +371,7 @@ module _ (P : Choice → Type 0) (space : P Space) (solid : P Solid) (dashed : P
   term-holds : (x : Choice) (c : Cell) → P x → P (termChoice x c)
   term-holds x c h = cond-holds P (c .term) x (padChoice (c .ancestry)) h (pad-holds (c .ancestry))
 
-  choice-holds : (link second : Row → Place → Choice) (r : Row) (p : Place) → P (link r p) → P (second r p) → (l : Line) → P (choiceWith link second r l p)
+  pub choice-holds : (link second : Row → Place → Choice) (r : Row) (p : Place) → P (link r p) → P (second r p) → (l : Line) → P (choiceWith link second r l p)
   choice-holds link second r p h k PreNode = pad-holds (nodeToPad (r .«is_head») (p .cell .node))
   choice-holds link second r p h k Node = node-holds (p .cell .node)
   choice-holds link second r p h k PostNode = pad-holds (nodeToPad (r .«is_root») (p .cell .node))
@@ -451,7 +451,7 @@ module _ (mark : ℕ) (r : Row) (l : Line) (p : Place) where
         (record { within = lit≤ tt; glyph = refl })
         l
 
-    cell-drawn : (q : Renderer) → Drawn (tableOf glyphs q mark) (numberOf q style (p .index) (choiceOf q r l p)) (bytesOf glyphs q style mark (p .index) (choiceOf q r l p))
+    pub cell-drawn : (q : Renderer) → Drawn (tableOf glyphs q mark) (numberOf q style (p .index) (choiceOf q r l p)) (bytesOf glyphs q style mark (p .index) (choiceOf q r l p))
     unfolding numberOf bytesOf choiceOf
     cell-drawn Ascii = ascii-drawn
     cell-drawn AsciiLarge = large-drawn

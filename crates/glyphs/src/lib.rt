@@ -16,6 +16,7 @@ pub use box_drawing::box_table;
 pub use choice::choose_cells;
 pub use row::LINES;
 pub use row::drawing_of;
+pub use row::is_large;
 pub use row::is_present;
 pub use row::line_at;
 pub use row::row_of;

@@ -128,8 +128,8 @@ pub fn line_at(k: usize) -> Line
     }
 }
 
-// Whether the renderer draws a second link line.
-fn is_large(renderer: Renderer) -> bool
+// Whether the renderer is large ASCII, which draws a second link line, and a cell by three bytes.
+pub fn is_large(renderer: Renderer) -> bool
     ensures { λ r. ⌜ r ≡ isLarge renderer ⌝ }
 {
     match renderer {

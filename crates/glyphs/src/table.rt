@@ -10,6 +10,7 @@ ghost use Rattle.message.specs.Message.{trimEnd};
 ghost use Rattle.slices.specs.Joins.{over, Writes};
 use column::COLUMN_LIMIT;
 use message::trimmed_length;
+use slices::difference;
 use slices::lesser;
 
 // The bytes of a glyph in a table: a count, and eight places.
@@ -214,11 +215,17 @@ pub fn write_cells(
     write_first(out, table, numbers, width, all + behind)
 }
 
-// Writes the cells of a line without the blanks at its end, where there is room for them.
-pub fn write_finished(out: &mut [u8], table: &[u8], numbers: &[u8], width: usize) -> usize
-    ensures { λ r. ⌜ Writes (trimEnd (cellsText (now (table .entry)) (firstCells width (now (numbers .entry))))) (now (out .entry)) (now (out .exit)) r ⌝ }
+// Writes the cells of a line without so many blanks at their end, where there is room for the other bytes.
+pub fn write_finished(
+    out: &mut [u8],
+    table: &[u8],
+    numbers: &[u8],
+    width: usize,
+    blanks: usize,
+) -> usize
+    ensures { λ r. ⌜ Writes (take (length (cellsText (now (table .entry)) (firstCells width (now (numbers .entry)))) - blanks) (cellsText (now (table .entry)) (firstCells width (now (numbers .entry))))) (now (out .entry)) (now (out .exit)) r ⌝ }
 {
-    let end = cells_length(table, numbers, width) - trailing_blanks(table, numbers, width);
+    let end = difference(cells_length(table, numbers, width), blanks);
     if out.len() < end {
         return 0;
     }

@@ -26,6 +26,7 @@ use Rattle.glyphs.specs.declared.Renderer.the-variants.{Ascii}
 use Rattle.glyphs.specs.Cells.{choiceOf, bytesOf}
 use Rattle.glyphs.specs.Marks.{vertParent, leftForkAncestor, rightMergeAncestor, child}
 use Rattle.output.specs.declared.TextState.{TextState}
+use Rattle.output.specs.Measure.{measureOf}
 use Rattle.text.specs.Text.{textWith}
 use Rattle.marked.specs.MarkedListing.{bytes, page, m1-mark}
 use Rattle.lineage.specs.declared.ShapeAnswer.{ShapeAnswer}
@@ -143,7 +144,7 @@ queueing =
 
 -- an accepted text call that queues a line meets its contract
 pub text-accepted : Met after-row (TextRan queueing after-text)
-unfolding row place textWith choiceOf bytesOf
+unfolding row place textWith choiceOf bytesOf measureOf
 text-accepted =
     record {
       reply = refl;
@@ -225,7 +226,7 @@ flushing =
 
 -- an accepted text call that writes the queued line meets its contract
 pub text-flushes : Met after-text (TextRan flushing at-end)
-unfolding row place textWith choiceOf bytesOf
+unfolding row place textWith choiceOf bytesOf measureOf
 text-flushes =
     record {
       reply = refl;

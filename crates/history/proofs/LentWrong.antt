@@ -20,6 +20,7 @@ use Rattle.width.specs.declared.WidthAnswer.{WidthAnswer}
 use Rattle.width.specs.Width.{width}
 use Rattle.glyphs.specs.Cells.{choiceOf, bytesOf}
 use Rattle.output.specs.declared.TextState.{TextState}
+use Rattle.output.specs.Measure.{measureOf}
 use Rattle.text.specs.Text.{TextReply, textWith}
 use Rattle.lineage.specs.declared.LengthAnswer.{LengthAnswer}
 use Rattle.lineage.specs.Promises.{LentReserves, LentRows, LentPreview, LentWidth}
@@ -172,8 +173,8 @@ not-queue-left k = let z : _≡_ {A = ℕ} 1 0 = ap (λ (a : TextReply). length 
 pub not-refused-text-written : Met after-text (TextRan (giving too-short (too-short .state′) (set (too-short .output′) 0 0x20) (too-short .answer)) after-text) → ⊥
 not-refused-text-written k = let z : _≡_ {A = ℕ} 0x20 0xa0 = ap (λ (out : List ℕ). getD out 0 0) (k .refused (λ e. omega (arith, e)) .2) in omega arith
 
--- "a measure that is [invented]": one more than the longest line's bytes (right: LentTextCase.text-flushes)
+-- "a measure that is [invented]": one more than the longest line's cells (right: LentTextCase.text-flushes)
 pub not-measure-invented :
     Met after-text (TextRan (giving flushing (flushing .state′) (flushing .output′) (record { refusal = 0; length = flushing .answer .length; measure = 7 })) at-end) → ⊥
-unfolding row place textWith choiceOf bytesOf
+unfolding row place textWith choiceOf bytesOf measureOf
 not-measure-invented k = let z : _≡_ {A = ℕ} 7 6 = ap (λ (a : TextReply). a .measure) (k .reply) in omega arith

@@ -7,10 +7,10 @@ use native.Mathlib.Nat.{not-suc-le-zero}
 use native.Mathlib.Numerals.{add-one}
 use native.Mathlib.Omega.{arith}
 use lib.Dec.{eqb, ltb, lit≤}
-use lib.ListN.{length, take, drop, getD, take-append-drop, drop-of-length-le, length-append, length-drop, length-take}
+use lib.ListN.{length, take, drop, getD, replicate, take-append-drop, drop-of-length-le, length-append, length-drop, length-take}
 use lib.Seq.{drop-cons, take-suc, length-take-le, drop-drop}
-use borrow.Author.Tests.{eq-eqb, ne-eqb, ltb-true, ltb-false}
-use Rattle.slices.specs.Characters.{newline}
+use borrow.Author.Tests.{eqb-true, eq-eqb, ne-eqb, ltb-true, ltb-false}
+use Rattle.slices.specs.Characters.{newline, blank}
 use Rattle.message.specs.Inner.{ends, firstLine, otherLines}
 use Rattle.message.specs.Message.{allOf, onto, linesOf, lineLength, trimEnd, keepLast}
 
@@ -241,6 +241,41 @@ trim-take (x ∷ xs) = kept x (trimEnd xs) xs (trim-take xs)
 
 pub trim-length : (s : List ℕ) → length (trimEnd s) ≤ length s
 trim-length s = omega (arith, ap length (trim-take s), length-take (length (trimEnd s)) s)
+
+-- bytes are what is left of them, and the blanks that it lacks
+pub trim-blanks : (s : List ℕ) → s ≡ trimEnd s ++ replicate (length s - length (trimEnd s)) blank
+trim-blanks [] = refl
+trim-blanks (x ∷ xs) = go (trimEnd xs) (trim-blanks xs)
+  where
+    go : (t : List ℕ) → xs ≡ t ++ replicate (length xs - length t) blank → x ∷ xs ≡ keepLast x t ++ replicate (suc (length xs) - length (keepLast x t)) blank
+    go [] e = by-test (eqb x blank) refl
+      where
+        z : length xs - 0 ≡ length xs
+        z = omega arith
+
+        by-test : (b : Bool) → eqb x blank ≡ b → x ∷ xs ≡ keepLast x [] ++ replicate (suc (length xs) - length (keepLast x [])) blank
+        by-test true q =
+            let k : suc (length xs) - 0 ≡ suc (length xs) = omega arith in
+            rw (q, k, eqb-true x blank q) (ap (λ (l : List ℕ). blank ∷ l) (rw z at e))
+        by-test false q =
+            let k : suc (length xs) - 1 ≡ length xs - 0 = omega arith in
+            rw (q, k) (ap (λ (l : List ℕ). x ∷ l) e)
+    go (y ∷ t) e =
+        let k : suc (length xs) - suc (suc (length t)) ≡ length xs - suc (length t) = omega arith in
+        rw k (ap (λ (l : List ℕ). x ∷ l) e)
+
+-- what is left has no more to lose
+pub trim-again : (s : List ℕ) → trimEnd (trimEnd s) ≡ trimEnd s
+trim-again [] = refl
+trim-again (x ∷ xs) = go (trimEnd xs) (trim-again xs)
+  where
+    go : (t : List ℕ) → trimEnd t ≡ t → trimEnd (keepLast x t) ≡ keepLast x t
+    go [] e = by-test (eqb x blank) refl
+      where
+        by-test : (b : Bool) → eqb x blank ≡ b → trimEnd (keepLast x []) ≡ keepLast x []
+        by-test true q = rw q refl
+        by-test false q = rw q (rw q refl)
+    go (y ∷ t) e = ap (keepLast x) e
 
 -- the length of one text behind another, trimmed
 pub trim-append : (xs ys : List ℕ)

@@ -9,9 +9,13 @@ use Rattle.slices.specs.Characters.{newline, blank}
 abbrev pub messageLimit : ℕ
 messageLimit = 512
 
+-- a printable byte: 20 to 7E (01, the table's row for text)
+abbrev pub isPrintable : ℕ → Bool
+isPrintable b = leb 0x20 b && leb b 0x7e
+
 -- "message byte not 0A or 20 to 7E" (01, the table's row for text)
 abbrev pub isWritable : ℕ → Bool
-isWritable b = eqb b newline || (leb 0x20 b && leb b 0x7e)
+isWritable b = eqb b newline || isPrintable b
 
 -- whether each byte passes a test
 abbrev pub allOf : (ℕ → Bool) → List ℕ → Bool

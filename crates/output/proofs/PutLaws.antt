@@ -1,14 +1,14 @@
 -- Laws of lines written behind each other, for any lines: what a writer of lines cites.
-use mathlib.Core.Path.{_≡_, refl, sym, ap, ap₂, _∙_}
+use mathlib.Core.Path.{_≡_, refl, sym, ap, _∙_}
 use mathlib.Core.Bool.{Bool, true, false, cond, _&&_}
-use mathlib.Core.List.{List, [], _∷_, _++_, map, append-nil}
+use mathlib.Core.List.{List, [], _∷_, _++_, map, append-assoc, append-nil}
 use Prim.Native.Nat.{ℕ, zero, suc, _+_, _-_, _<_, _≤_, min, max, zero-le}
 use native.Mathlib.Nat.{add-zero}
 use native.Mathlib.Omega.{arith}
 use lib.Dec.{eqb, ltb, leb, lit≤}
-use borrow.Author.Tests.{ne-eqb, ltb-true, ltb-false, le-leb, lt-leb}
+use borrow.Author.Tests.{ne-eqb, ltb-true, ltb-false, leb-true, le-leb, lt-leb}
 use lib.ListN.{length, take, drop, set, length-append, length-take, length-map}
-use lib.Seq.{take-all}
+use lib.Seq.{take-all, take-append-seam}
 use Rattle.slices.specs.Characters.{newline}
 use Rattle.slices.specs.Joins.{over, Writes}
 use Rattle.slices.proofs.JoinLaws.{joins-append}
@@ -17,7 +17,8 @@ use Rattle.message.specs.Message.{trimEnd}
 use Rattle.message.proofs.MessageLaws.{trim-length}
 use Rattle.output.specs.declared.Put.{Put}
 use Rattle.output.specs.declared.TextState.{TextState}
-use Rattle.output.specs.Output.{queueLimit, finish, ended, textOf, measureOf, lineMeasure, textViewOf, flushed, linesAbove, beginRow, Puts}
+use Rattle.output.specs.Measure.{measureOf}
+use Rattle.output.specs.Output.{queueLimit, finish, ended, textOf, lineMeasure, textViewOf, flushed, linesAbove, beginRow, Puts}
 
 pub measure-append : (ls ms : List (List ℕ)) → lineMeasure (ls ++ ms) ≡ max (lineMeasure ls) (lineMeasure ms)
 measure-append [] ms = omega arith
@@ -82,9 +83,8 @@ module _ (t : TextState) (long : length (t .«queued_pad_line») ≡ queueLimit)
         let l : List ℕ = take (n - 0) (drop 0 (t .«queued_pad_line»)) in
         rw (queue-lines, append-nil, length-append (trimEnd l) (0x0a ∷ []), h) refl
 
-    pub queue-there : (d o : List ℕ) (r : Put) → Puts (finish (take (n - 0) (drop 0 (t .«queued_pad_line»))) ∷ []) d o r
-        → Puts (flushed finish (textViewOf t)) d o r
-    queue-there d o r p = rw queue-lines p
+    pub queue-written : (d o : List ℕ) (k : ℕ) → Writes (ended (finish (take (n - 0) (drop 0 (t .«queued_pad_line»))))) d o k → Writes (textOf (flushed finish (textViewOf t))) d o k
+    queue-written d o k w = rw (queue-lines, append-nil) w
 
 -- ---- lines that fit, and lines that do not
 module _ (ls : List (List ℕ)) (d o : List ℕ) (r : Put) where
@@ -110,19 +110,15 @@ module _ (ls : List (List ℕ)) (d o : List ℕ) (r : Put) where
     pub put-measure : r .measure ≡ lineMeasure ls
     put-measure = p .measure ∙ ap (λ (b : Bool). cond b (lineMeasure ls) 0) (le-leb (length (textOf ls)) (length d) h)
 
--- what was written is no longer than the lines, nor than the output
-pub put-few : (ls : List (List ℕ)) (d o : List ℕ) (r : Put) → Puts ls d o r → (r .length ≤ length (textOf ls)) × (r .length ≤ length d)
-put-few ls d o r p = go (ltb (length d) (length (textOf ls))) refl
+-- what was written is no longer than the bytes, nor than the output
+pub writes-few : (bs d o : List ℕ) (k : ℕ) → Writes bs d o k → (k ≤ length bs) × (k ≤ length d)
+writes-few bs d o k w = go (leb (length bs) (length d)) refl
   where
-    go : (b : Bool) → ltb (length d) (length (textOf ls)) ≡ b → (r .length ≤ length (textOf ls)) × (r .length ≤ length d)
+    go : (b : Bool) → leb (length bs) (length d) ≡ b → (k ≤ length bs) × (k ≤ length d)
     go true e =
-        let h : length d < length (textOf ls) = ltb-true (length d) (length (textOf ls)) e in
-        let z : r .length ≡ 0 = rw (lt-leb (length (textOf ls)) (length d) h) at (p .bytes .count) in
-        (omega arith, omega arith)
-    go false e =
-        let h : length (textOf ls) ≤ length d = ltb-false (length d) (length (textOf ls)) e in
-        let z : r .length ≡ length (textOf ls) = put-count ls d o r p h in
-        (omega arith, omega arith)
+        let z : k ≡ length bs = rw e at (w .count) in
+        (omega (arith, z), omega (arith, z, leb-true (length bs) (length d) e))
+    go false e = let z : k ≡ 0 = rw e at (w .count) in (omega (arith, z), omega (arith, z))
 
 -- ---- a line's end behind some bytes
 module _ (bs d : List ℕ) where
@@ -138,48 +134,62 @@ module _ (bs d : List ℕ) where
       (over-one bs d newline (e ∙ copied-over bs d) refl h)
 
 -- ---- a line that is written without the blanks at its end
-module _ (s d o : List ℕ) (n k : ℕ) (r : Put) (t : take n s ≡ trimEnd s) (w : Writes (ended (take (n - 0) (drop 0 s))) d o k) where
-  one-text : textOf (trimEnd s ∷ []) ≡ ended (take (n - 0) (drop 0 s))
-  one-text = let z : n - 0 ≡ n = omega arith in rw (z, t) (append-nil (ended (trimEnd s)))
+pub push-done : (s d o : List ℕ) (n k : ℕ) → take n s ≡ trimEnd s → Writes (ended (take (n - 0) (drop 0 s))) d o k → Writes (ended (finish s)) d o k
+push-done s d o n k t w = let z : n - 0 ≡ n = omega arith in rw (z, t) at w
 
-  one-long : length (textOf (trimEnd s ∷ [])) ≡ length (trimEnd s) + 1
-  one-long = ap length (append-nil (ended (trimEnd s))) ∙ length-append (trimEnd s) (newline ∷ [])
+-- ---- a line that was written, measured in the output: k bytes are written, and all but the end are looked at
+no-measure : measureOf [] ≡ 0
+unfolding measureOf
+no-measure = refl
 
-  one-written : Writes (textOf (trimEnd s ∷ [])) d o k
-  one-written = rw one-text w
+module _ (d o : List ℕ) (k i m : ℕ) (e : i ≡ k - 1) (f : m ≡ measureOf (take (i - 0) (drop 0 o))) where
+  nothing-looked-at : k ≡ 0 → m ≡ 0
+  nothing-looked-at z =
+      let n : i - 0 ≡ 0 = omega arith in
+      f ∙ ap (λ (j : ℕ). measureOf (take j o)) n ∙ no-measure
 
-  fits : (b : Bool) → leb (length (textOf (trimEnd s ∷ []))) (length d) ≡ b → k ≡ cond b (length (textOf (trimEnd s ∷ []))) 0
-  fits b e = one-written .count ∙ ap (λ (x : Bool). cond x (length (textOf (trimEnd s ∷ []))) 0) e
+  none-measured : Writes (textOf []) d o k → Puts [] d o (record { length = k; measure = m })
+  none-measured w =
+      let z : k ≡ 0 = wrote-count [] d o k w zero-le in
+      puts-all [] d o (record { length = k; measure = m }) zero-le z (wrote [] d o k w zero-le) (nothing-looked-at z)
 
-  pub push-none : k ≡ 0 → r .length ≡ 0 → r .measure ≡ 0 → Puts (finish s ∷ []) d o r
-  push-none z e f = record {
-    bytes = rw (e, ← z) one-written;
-    measure = go (leb (length (textOf (trimEnd s ∷ []))) (length d)) refl;
-  }
+  one-measured : (l : List ℕ) → Writes (textOf (l ∷ [])) d o k → Puts (l ∷ []) d o (record { length = k; measure = m })
+  one-measured l w = go (ltb (length d) (length (textOf (l ∷ [])))) refl
     where
-      go : (b : Bool) → leb (length (textOf (trimEnd s ∷ []))) (length d) ≡ b → r .measure ≡ cond (leb (length (textOf (trimEnd s ∷ []))) (length d)) (lineMeasure (trimEnd s ∷ [])) 0
-      go true q = absurd (omega (arith, fits true q, one-long, z))
-      go false q = rw q f
+      long : length (textOf (l ∷ [])) ≡ length l + 1
+      long = ap length (append-nil (ended l)) ∙ length-append l (newline ∷ [])
 
-  pub push-done : (k ≡ 0 → ⊥) → r .length ≡ k → r .measure ≡ measureOf (take (n - 0) (drop 0 s)) → Puts (finish s ∷ []) d o r
-  push-done z e f = record {
-    bytes = rw e one-written;
-    measure = go (leb (length (textOf (trimEnd s ∷ []))) (length d)) refl;
-  }
+      go : (b : Bool) → ltb (length d) (length (textOf (l ∷ []))) ≡ b → Puts (l ∷ []) d o (record { length = k; measure = m })
+      go true q =
+          let h : length d < length (textOf (l ∷ [])) = ltb-true (length d) (length (textOf (l ∷ []))) q in
+          let z : k ≡ 0 = rw (lt-leb (length (textOf (l ∷ []))) (length d) h) at (w .count) in
+          let same : o ≡ d = rw (lt-leb (length (textOf (l ∷ []))) (length d) h) at (w .output) in
+          puts-none (l ∷ []) d o (record { length = k; measure = m }) h z (nothing-looked-at z) same
+      go false q =
+          let h : length (textOf (l ∷ [])) ≤ length d = ltb-false (length d) (length (textOf (l ∷ []))) q in
+          let c : k ≡ length (textOf (l ∷ [])) = wrote-count (textOf (l ∷ [])) d o k w h in
+          let n : i - 0 ≡ length l = omega (arith, c, long) in
+          let there : o ≡ l ++ (newline ∷ drop (length (ended l)) d)
+          = wrote (textOf (l ∷ [])) d o k w h ∙ ap (λ (x : List ℕ). over x d) (append-nil (ended l)) ∙ append-assoc l (newline ∷ []) (drop (length (ended l)) d) in
+          let front : take (length l) o ≡ l = rw there (take-append-seam l (newline ∷ drop (length (ended l)) d)) in
+          puts-all (l ∷ []) d o (record { length = k; measure = m }) h c (wrote (textOf (l ∷ [])) d o k w h)
+          (f ∙ ap (λ (j : ℕ). measureOf (take j o)) n ∙ ap measureOf front ∙ omega arith)
+
+  -- the queued line, if there is one
+  pub queue-measured : (t : TextState) → Writes (textOf (flushed finish (textViewOf t))) d o k → Puts (flushed finish (textViewOf t)) d o (record { length = k; measure = m })
+  queue-measured t w = go (t .«is_queued») w
     where
-      m : r .measure ≡ length (trimEnd s)
-      m = let z : n - 0 ≡ n = omega arith in rw (z, t) at f
-
-      go : (b : Bool) → leb (length (textOf (trimEnd s ∷ []))) (length d) ≡ b → r .measure ≡ cond (leb (length (textOf (trimEnd s ∷ []))) (length d)) (lineMeasure (trimEnd s ∷ [])) 0
-      go true q = rw q (omega (arith, m))
-      go false q = absurd (z (fits false q))
+      go : (b : Bool) → Writes (textOf (map finish (cond b (take (t .«queued_length») (t .«queued_pad_line») ∷ []) []))) d o k
+          → Puts (map finish (cond b (take (t .«queued_length») (t .«queued_pad_line») ∷ []) [])) d o (record { length = k; measure = m })
+      go true w = one-measured (finish (take (t .«queued_length») (t .«queued_pad_line»))) w
+      go false w = none-measured w
 
 -- ---- what stands between two rows
 pub none-queued : (t : TextState) → t .«is_queued» ≡ false → 0 ≡ length (textOf (flushed finish (textViewOf t)))
 none-queued t e = rw e refl
 
-pub queue-none : (t : TextState) (d : List ℕ) (r : Put) → t .«is_queued» ≡ false → r .length ≡ 0 → r .measure ≡ 0 → Puts (flushed finish (textViewOf t)) d d r
-queue-none t d r e f g = rw e (puts-all [] d d r zero-le f refl g)
+pub queue-none : (t : TextState) (d : List ℕ) → t .«is_queued» ≡ false → Writes (textOf (flushed finish (textViewOf t))) d d 0
+queue-none t d e = rw e (writes-all [] d d 0 zero-le refl refl)
 
 module _ (b : Bool) (t : TextState) where
   module _ (e : (b && eqb (linesAbove (textViewOf t)) 1) ≡ false) where
@@ -202,23 +212,26 @@ module _ (b : Bool) (t : TextState) where
     pub length-more : (n : ℕ) → n ≡ length (textOf (flushed finish (textViewOf t))) → n + 1 ≡ length (textOf (beginRow finish b (textViewOf t)))
     length-more n f = omega (arith, f, both-long)
 
-    pub begin-done : (d o p : List ℕ) (r s w : Put) → length (textOf (beginRow finish b (textViewOf t))) ≤ length d → length o ≡ length d
-        → Puts (flushed finish (textViewOf t)) d o r → Puts ([] ∷ []) (take (length o - r .length) (drop (r .length) o)) p s
-        → w .length ≡ r .length + s .length → w .measure ≡ max (r .measure) (s .measure)
+    -- the separator stands behind the queued line, which alone has a measure
+    begin-measure : lineMeasure (beginRow finish b (textViewOf t)) ≡ lineMeasure (flushed finish (textViewOf t))
+    begin-measure = ap lineMeasure (sym one-there) ∙ measure-append (flushed finish (textViewOf t)) ([] ∷ []) ∙ omega (arith, no-measure)
+
+    pub begin-done : (d o p : List ℕ) (r w : Put) (k : ℕ) → length (textOf (beginRow finish b (textViewOf t))) ≤ length d → length o ≡ length d
+        → Puts (flushed finish (textViewOf t)) d o r → Writes (ended []) (take (length o - r .length) (drop (r .length) o)) p k
+        → w .length ≡ r .length + k → w .measure ≡ r .measure
         → Puts (beginRow finish b (textViewOf t)) d (take (r .length) o ++ (p ++ drop (length o - r .length) (drop (r .length) o))) w
-    begin-done d o p r s w h same x y f g =
+    begin-done d o p r w k h same x y f g =
         let ls : List (List ℕ) = flushed finish (textViewOf t) in
         let part : List ℕ = take (length o - r .length) (drop (r .length) o) in
         let hx : length (textOf ls) ≤ length d = omega (arith, both-long) in
         let n : r .length ≡ length (textOf ls) = put-count ls d o r x hx in
-        let hy : length (textOf ([] ∷ [])) ≤ length part = omega (arith, part-room o (r .length), n, both-long, same, h) in
-        let k : s .length ≡ 1 = put-count ([] ∷ []) part p s y hy in
-        let q : take (r .length) o ++ (p ++ drop (length o - r .length) (drop (r .length) o)) ≡ over (textOf ls ++ textOf ([] ∷ [])) d
-        = part-written (textOf ls) (textOf ([] ∷ [])) d (put-bytes ls d o r x hx) n (put-bytes ([] ∷ []) part p s y hy) in
-        rw (← one-there)
-        (puts-all (ls ++ ([] ∷ [])) d _ w (rw one-there h) (omega (arith, f, n, k, text-length ls ([] ∷ [])))
-        (q ∙ ap (λ (l : List ℕ). over l d) (sym (joins-append ended ls ([] ∷ []))))
-        (g ∙ ap₂ max (put-measure ls d o r x hx) (put-measure ([] ∷ []) part p s y hy) ∙ sym (measure-append ls ([] ∷ []))))
+        let hy : length (ended []) ≤ length part = omega (arith, part-room o (r .length), n, both-long, same, h) in
+        let c : k ≡ 1 = wrote-count (ended []) part p k y hy in
+        let q : take (r .length) o ++ (p ++ drop (length o - r .length) (drop (r .length) o)) ≡ over (textOf ls ++ ended []) d
+        = part-written (textOf ls) (ended []) d (put-bytes ls d o r x hx) n (wrote (ended []) part p k y hy) in
+        puts-all (beginRow finish b (textViewOf t)) d _ w h (omega (arith, f, n, c, both-long))
+        (q ∙ ap (λ (l : List ℕ). over l d) (sym (joins-append ended ls ([] ∷ [])) ∙ ap textOf one-there))
+        (g ∙ put-measure ls d o r x hx ∙ sym begin-measure)
 
   pub begin-none : (d : List ℕ) (r : Put) (n : ℕ) → n ≡ length (textOf (beginRow finish b (textViewOf t))) → length d < n → r .length ≡ 0 → r .measure ≡ 0
       → Puts (beginRow finish b (textViewOf t)) d d r

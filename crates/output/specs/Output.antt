@@ -10,6 +10,7 @@ use Rattle.slices.specs.Characters.{newline}
 use Rattle.message.specs.Message.{trimEnd}
 use Rattle.output.specs.declared.TextState.{TextState}
 use Rattle.output.specs.declared.Put.{Put}
+use Rattle.output.specs.Measure.{measureOf}
 
 -- the queue's array has eight bytes for each of 64 cells
 abbrev pub queueLimit : ℕ
@@ -29,16 +30,12 @@ ended l = l ++ (newline ∷ [])
 abbrev pub textOf : List (List ℕ) → List ℕ
 textOf ls = joins ended ls
 
--- the measure of a finished line: "the byte length, line end not counted" (01, "Added by us")
-abbrev pub measureOf : List ℕ → ℕ
-measureOf l = length l
-
 -- the greatest of some numbers, 0 of none
 abbrev pub greatest : List ℕ → ℕ
 greatest [] = 0
 greatest (n ∷ ns) = max n (greatest ns)
 
--- the line measure: "of the longest line that one text call writes, a queued line or separator included" (01, "Added by us")
+-- the line measure: "of the longest line that one text call writes, a queued line or separator included" (01, "Added by us"), in cells (02, R-2)
 abbrev pub lineMeasure : List (List ℕ) → ℕ
 lineMeasure ls = greatest (map measureOf ls)
 

@@ -2,3 +2,5 @@ pub mod RepeatLaws
 pub mod RowTextLaws
 pub mod TextLineLaws
 pub mod CallLaws
+pub mod SpanLaws
+pub mod Measured

@@ -6,8 +6,7 @@ use Prim.Native.Nat.{ℕ, zero, suc, _+_, _*_, _-_, _<_, _≤_, min, max, zero-l
 use native.Mathlib.Nat.{not-suc-le-zero, suc-mul}
 use native.Mathlib.Numerals.{add-one}
 use native.Mathlib.Omega.{arith}
-use borrow.Author.Tests.{eqb-true}
-use lib.Dec.{eqb, lit≤}
+use lib.Dec.{lit≤}
 use lib.ListN.{length, take, drop, getD, replicate, length-replicate, replicate-append-replicate, length-append, length-take, length-drop, length-map, take-append-drop}
 use lib.Seq.{take-suc, take-length, take-append-le, take-append-seam, drop-append-add, drop-drop}
 use Rattle.slices.specs.Characters.{newline, blank}
@@ -25,26 +24,22 @@ use Rattle.glyphs.specs.Tables.{glyphAt, cellsText}
 use Rattle.glyphs.proofs.TableLaws.{glyph-short}
 use Rattle.message.specs.Message.{linesOf, lineLength, trimEnd, keepLast}
 use Rattle.message.specs.Inner.{firstLine, otherLines}
-use Rattle.message.proofs.MessageLaws.{lines-next, line-within, drop-capped, behind, trim-length, trim-front, trim-behind, trim-take}
+use Rattle.message.proofs.MessageLaws.{lines-next, line-within, drop-capped, behind, trim-length, trim-front, trim-behind, trim-take, trim-blanks, trim-again}
 use Rattle.output.specs.declared.Put.{Put}
-use Rattle.output.specs.Output.{ended, textOf, lineMeasure}
-use Rattle.output.proofs.PutLaws.{measure-append}
+use Rattle.output.specs.Output.{ended, textOf, greatest}
 use Rattle.text.specs.declared.lines.Lengths.{Lengths}
 use Rattle.text.specs.declared.prefix_lines_to_text.Counted.{Counted}
 use Rattle.text.specs.declared.prefix_lines_to_text.Plan.{Plan}
 use Rattle.text.specs.declared.prefix_lines_to_text.RowPut.{RowPut}
 use Rattle.text.specs.Text.{times, withMessages}
-use Rattle.text.specs.Inner.{lineWith, Measured, prefixAgain, drawn, leftOver, spread, lineTimes, WritesLine, WritesLineAt, RowPuts, Counts}
+use Rattle.text.proofs.TextLineLaws.{line-short}
+use Rattle.text.specs.Inner.{lineWith, measuresWith, Measured, prefixAgain, drawn, leftOver, spread, lineTimes, WritesLine, WritesLineAt, RowPuts, Counts}
 
 -- ---- one line
 
 -- what a table's cells have at most
 pub cells-short : (table numbers : List ℕ) → length (cellsText table numbers) ≤ 8 * length numbers
 cells-short table numbers = joins-short (glyphAt table) 8 (glyph-short table) numbers
-
--- a line with a message line is no longer than its parts
-line-short : (xs part : List ℕ) → length (lineWith xs part) ≤ length xs + 1 + length part
-line-short xs part = omega (arith, trim-length (xs ++ (blank ∷ part)), length-append xs (blank ∷ part))
 
 -- it begins with the finished prefix
 line-front : (xs part : List ℕ) → take (length (trimEnd xs)) (lineWith xs part) ≡ trimEnd xs
@@ -59,41 +54,6 @@ line-front xs part = go (trimEnd part) refl
 
 line-long : (xs part : List ℕ) → length (trimEnd xs) ≤ length (lineWith xs part)
 line-long xs part = omega (arith, ap length (line-front xs part), length-take (length (trimEnd xs)) (lineWith xs part))
-
--- a text is its finished one and blanks behind it
-blanks-behind : (s : List ℕ) → trimEnd s ++ replicate (length s - length (trimEnd s)) blank ≡ s
-blanks-behind [] = refl
-blanks-behind (x ∷ xs) = kept (trimEnd xs) (blanks-behind xs)
-  where
-    kept : (t : List ℕ) → t ++ replicate (length xs - length t) blank ≡ xs → keepLast x t ++ replicate (suc (length xs) - length (keepLast x t)) blank ≡ x ∷ xs
-    kept [] e = by-test (eqb x blank) refl
-      where
-        none : length xs - 0 ≡ length xs
-        none = omega arith
-
-        by-test : (b : Bool) → eqb x blank ≡ b → cond b [] (x ∷ []) ++ replicate (suc (length xs) - length (cond b [] (x ∷ []))) blank ≡ x ∷ xs
-        by-test true q =
-            let z : suc (length xs) - 0 ≡ suc (length xs) = omega arith in
-            rw z (ap₂ _∷_ (sym (eqb-true x blank q)) (rw none at e))
-        by-test false q =
-            let z : suc (length xs) - 1 ≡ length xs - 0 = omega arith in
-            rw z (ap (λ (l : List ℕ). x ∷ l) e)
-    kept (y ∷ t) e =
-        let z : suc (length xs) - suc (suc (length t)) ≡ length xs - suc (length t) = omega arith in
-        rw z (ap (λ (l : List ℕ). x ∷ l) e)
-
--- a finished text stays as it is
-trim-twice : (s : List ℕ) → trimEnd (trimEnd s) ≡ trimEnd s
-trim-twice [] = refl
-trim-twice (x ∷ xs) = kept (trimEnd xs) (trim-twice xs)
-  where
-    kept : (t : List ℕ) → trimEnd t ≡ t → trimEnd (keepLast x t) ≡ keepLast x t
-    kept [] e = by-test (eqb x blank) refl
-      where
-        by-test : (b : Bool) → eqb x blank ≡ b → trimEnd (cond b [] (x ∷ [])) ≡ cond b [] (x ∷ [])
-        by-test true q = refl
-        by-test false q = rw q refl
-    kept (y ∷ t) e = ap (keepLast x) e
 
 -- lengths that some prefix line has
 pub some-prefix : (r : Lengths) → r .finished ≤ r .all → Measured (replicate (r .finished) 0 ++ replicate (r .all - r .finished) blank) r
@@ -124,6 +84,11 @@ left-append (x ∷ xs) ys m = left-append xs ys (otherLines m)
 drawn-append : (xs ys : List (List ℕ)) (m : List ℕ) → drawn (xs ++ ys) m ≡ drawn xs m ++ drawn ys (leftOver xs m)
 drawn-append [] ys m = refl
 drawn-append (x ∷ xs) ys m = ap (λ (l : List (List ℕ)). lineWith x (firstLine m) ∷ l) (drawn-append xs ys (otherLines m))
+
+measures-append : (whole : ℕ) (xs ys : List (List ℕ)) (m : List ℕ)
+    → greatest (measuresWith whole (xs ++ ys) m) ≡ max (greatest (measuresWith whole xs m)) (greatest (measuresWith whole ys (leftOver xs m)))
+measures-append whole [] ys m = omega arith
+measures-append whole (x ∷ xs) ys m = omega (arith, measures-append whole xs ys (otherLines m))
 
 text-append : (xs ys : List (List ℕ)) (m : List ℕ) → textOf (drawn (xs ++ ys) m) ≡ textOf (drawn xs m) ++ textOf (drawn ys (leftOver xs m))
 text-append xs ys m = ap textOf (drawn-append xs ys m) ∙ joins-append ended (drawn xs m) (drawn ys (leftOver xs m))
@@ -255,18 +220,18 @@ behind-written xs bs d {o} {p} {at} e f g =
     = rw (e, f) (drop-append-add xs (drop (length xs) d) (length bs) ∙ drop-drop (length bs) (length xs) d ∙ ap (λ (k : ℕ). drop k d) z) in
     g ∙ ap₂ (λ (u w : List ℕ). u ++ (bs ++ w)) a b ∙ sym (append-assoc xs bs (drop (length (xs ++ bs)) d))
 
-module _ (message : List ℕ) where
+module _ (whole : ℕ) (message : List ℕ) where
   -- what was counted is what was written
-  counted : (ps : List (List ℕ)) (start : ℕ) (d o : List ℕ) (r : RowPut) → RowPuts ps message start d o r → Counts ps message start (record { length = r .length; next = r .next })
+  counted : (ps : List (List ℕ)) (start : ℕ) (d o : List ℕ) (r : RowPut) → RowPuts whole ps message start d o r → Counts ps message start (record { length = r .length; next = r .next })
   counted ps start d o r g = record { count = g .count; next = g .next; within = g .within }
 
-  pub row-none : (start : ℕ) (d : List ℕ) → start ≤ length message → RowPuts [] message start d d (record { length = 0; measure = 0; next = start })
+  pub row-none : (start : ℕ) (d : List ℕ) → start ≤ length message → RowPuts whole [] message start d d (record { length = 0; measure = 0; next = start })
   row-none start d h = record { count = refl; output = refl; measure = refl; next = refl; within = h }
 
   -- one line
   row-one : (l : List ℕ) (start e : ℕ) (d o : List ℕ) (s : Put) (w : RowPut) → e ≡ start + lineLength (drop start message)
-      → WritesLine (lineWith l (take (e - start) (drop start message))) d o s → w .length ≡ s .length → w .measure ≡ s .measure → w .next ≡ min (suc e) (length message)
-      → RowPuts (l ∷ []) message start d o w
+      → WritesLine l (take (e - start) (drop start message)) whole d o s → w .length ≡ s .length → w .measure ≡ s .measure → w .next ≡ min (suc e) (length message)
+      → RowPuts whole (l ∷ []) message start d o w
   row-one l start e d o s w q g a b c =
       let z : e - start ≡ lineLength (drop start message) = omega arith in
       let n = count-one message l start (s .length) e (record { length = w .length; next = w .next }) q (g .count) a c in
@@ -280,37 +245,37 @@ module _ (message : List ℕ) where
       }
 
   -- lines behind lines: p is the whole output, with the bytes of the others behind those of the first
-  row-append : (xs ys : List (List ℕ)) (start : ℕ) (d o p : List ℕ) (r w : RowPut) (s : Counted) → RowPuts xs message start d o r → Counts ys message (r .next) s
+  row-append : (xs ys : List (List ℕ)) (start : ℕ) (d o p : List ℕ) (r w : RowPut) (s : Counted) → RowPuts whole xs message start d o r → Counts ys message (r .next) s
       → p ≡ over (textOf (drawn xs (drop start message)) ++ textOf (drawn ys (drop (r .next) message))) d
-      → w .length ≡ r .length + s .length → w .measure ≡ max (r .measure) (lineMeasure (drawn ys (drop (r .next) message))) → w .next ≡ s .next
-      → RowPuts (xs ++ ys) message start d p w
+      → w .length ≡ r .length + s .length → w .measure ≡ max (r .measure) (greatest (measuresWith whole ys (drop (r .next) message))) → w .next ≡ s .next
+      → RowPuts whole (xs ++ ys) message start d p w
   row-append xs ys start d o p r w s a b q e m n =
       let m₀ : List ℕ = drop start message in
       let c = count-append message xs ys start (record { length = r .length; next = r .next }) s (record { length = w .length; next = w .next }) (counted xs start d o r a) b e n in
       record {
         count = c .count;
         output = rw (a .next) at q ∙ ap (λ (x : List ℕ). over x d) (sym (text-append xs ys m₀));
-        measure = m ∙ ap₂ max (a .measure) (ap (λ (x : List ℕ). lineMeasure (drawn ys x)) (a .next)) ∙ sym (ap lineMeasure (drawn-append xs ys m₀) ∙ measure-append (drawn xs m₀) (drawn ys (leftOver xs m₀)));
+        measure = m ∙ ap₂ max (a .measure) (ap (λ (x : List ℕ). greatest (measuresWith whole ys x)) (a .next)) ∙ sym (measures-append whole xs ys m₀);
         next = c .next;
         within = c .within;
       }
 
   -- the part of the output behind them was lent to a writer of the others, and came back as p
-  row-part : (xs ys : List (List ℕ)) (start : ℕ) (d o p : List ℕ) (r s w : RowPut) → RowPuts xs message start d o r
-      → RowPuts ys message (r .next) (take (length o - r .length) (drop (r .length) o)) p s
+  row-part : (xs ys : List (List ℕ)) (start : ℕ) (d o p : List ℕ) (r s w : RowPut) → RowPuts whole xs message start d o r
+      → RowPuts whole ys message (r .next) (take (length o - r .length) (drop (r .length) o)) p s
       → w .length ≡ r .length + s .length → w .measure ≡ max (r .measure) (s .measure) → w .next ≡ s .next
-      → RowPuts (xs ++ ys) message start d (take (r .length) o ++ (p ++ drop (length o - r .length) (drop (r .length) o))) w
+      → RowPuts whole (xs ++ ys) message start d (take (r .length) o ++ (p ++ drop (length o - r .length) (drop (r .length) o))) w
   row-part xs ys start d o p r s w a b e m n =
       row-append xs ys start d o _ r w (record { length = s .length; next = s .next }) a (counted ys (r .next) _ p s b)
       (part-written (textOf (drawn xs (drop start message))) (textOf (drawn ys (drop (r .next) message))) d (a .output) (a .count) (b .output))
       e (m ∙ ap (max (r .measure)) (b .measure)) n
 
 -- ---- a loop that writes a line again and again
-module _ (message : List ℕ) (start : ℕ) (b : List ℕ) where
+module _ (whole : ℕ) (message : List ℕ) (start : ℕ) (b : List ℕ) where
   -- what was written so far
   pub record Writing (ps : List (List ℕ)) (o : List ℕ) (r : RowPut) : Type 0 where
     pub same : length o ≡ length b
-    pub rows : RowPuts ps message start b o r
+    pub rows : RowPuts whole ps message start b o r
 
   -- a line that is written so often: the first one fits
   pub first-fits : (l : List ℕ) (times e : ℕ) → length (textOf (drawn (replicate times l) (drop start message))) ≤ length b → 0 < times
@@ -321,9 +286,9 @@ module _ (message : List ℕ) (start : ℕ) (b : List ℕ) where
       rw z (omega (arith, fits, length-append (ended (lineWith l (firstLine (drop start message)))) (textOf (drawn (replicate k l) (otherLines (drop start message))))))
 
   pub first-written : (l : List ℕ) (e : ℕ) (o : List ℕ) (s : Put) (w : RowPut) → e ≡ start + lineLength (drop start message)
-      → WritesLine (lineWith l (take (e - start) (drop start message))) b o s → length o ≡ length b → w .length ≡ s .length → w .measure ≡ s .measure → w .next ≡ min (suc e) (length message)
+      → WritesLine l (take (e - start) (drop start message)) whole b o s → length o ≡ length b → w .length ≡ s .length → w .measure ≡ s .measure → w .next ≡ min (suc e) (length message)
       → Writing (replicate 1 l) o w
-  first-written l e o s w q g same a m n = record { same = same; rows = row-one message l start e b o s w q g a m n }
+  first-written l e o s w q g same a m n = record { same = same; rows = row-one whole message l start e b o s w q g a m n }
 
   -- the next one, if so many lines are left
   module _ (l : List ℕ) (lengths : Lengths) (m : Measured l lengths) (i : ℕ) (o : List ℕ) (r : RowPut) (g : Writing (replicate i l) o r) where
@@ -359,7 +324,7 @@ module _ (message : List ℕ) (start : ℕ) (b : List ℕ) where
 
     prefix-again : 0 < i → prefixAgain lengths o ≡ l
     prefix-again h =
-        ap₂ (λ (x : List ℕ) (k : ℕ). x ++ replicate k blank) (front-there h) (ap₂ _-_ (m .all) (m .finished)) ∙ blanks-behind l
+        ap₂ (λ (x : List ℕ) (k : ℕ). x ++ replicate k blank) (front-there h) (ap₂ _-_ (m .all) (m .finished)) ∙ sym (trim-blanks l)
 
     -- what the writer of one more line is asked
     pub again-asked : (times : ℕ) → length (textOf (drawn (replicate times l) (drop start message))) ≤ length b → 0 < i → i < times
@@ -368,7 +333,7 @@ module _ (message : List ℕ) (start : ℕ) (b : List ℕ) where
         × (r .length + length (ended (lineWith (prefixAgain lengths o) (take (e - r .next) (drop (r .next) message)))) ≤ length o)
     again-asked times fits h k e q =
         let z : e - r .next ≡ lineLength (drop (r .next) message) = omega arith in
-        ((omega (arith, m .all, m .finished, trim-length l), first-long i h (g .rows .count), rw (front-there h) (trim-twice l)), rw (prefix-again h, z, g .same) (line-fits times fits k))
+        ((omega (arith, m .all, m .finished, trim-length l), first-long i h (g .rows .count), rw (front-there h) (trim-again l)), rw (prefix-again h, z, g .same) (line-fits times fits k))
       where
         first-long : (i : ℕ) → 0 < i → r .length ≡ length (textOf (drawn (replicate i l) (drop start message))) → lengths .finished ≤ r .length
         first-long zero h e = absurd (not-suc-le-zero h)
@@ -378,18 +343,18 @@ module _ (message : List ℕ) (start : ℕ) (b : List ℕ) where
 
     -- the line once more
     pub again-written : 0 < i → (e : ℕ) (p : List ℕ) (s : Put) (w : RowPut) → e ≡ r .next + lineLength (drop (r .next) message) → length p ≡ length o
-        → WritesLineAt (lineWith (prefixAgain lengths o) (take (e - r .next) (drop (r .next) message))) (r .length) o p s
+        → WritesLineAt (prefixAgain lengths o) (take (e - r .next) (drop (r .next) message)) whole (r .length) o p s
         → w .length ≡ r .length + s .length → w .measure ≡ max (r .measure) (s .measure) → w .next ≡ min (suc e) (length message)
         → Writing (replicate (i + 1) l) p w
     again-written h e p s w q same u a c n =
         let z : e - r .next ≡ lineLength (drop (r .next) message) = omega arith in
         let line : List ℕ = lineWith l (firstLine (drop (r .next) message)) in
-        let v : WritesLineAt line (r .length) o p s = rw (prefix-again h, z) at u in
+        let v : WritesLineAt l (firstLine (drop (r .next) message)) whole (r .length) o p s = rw (prefix-again h, z) at u in
         let k : s .length ≡ length (ended (lineWith l (take (e - r .next) (drop (r .next) message)))) = rw z (v .count) in
         record {
           same = same ∙ g .same;
           rows = rw (← replicate-append-replicate i 1 l)
-              (row-append message (replicate i l) (l ∷ []) start b o p r w (record { length = s .length; next = w .next }) (g .rows)
+              (row-append whole message (replicate i l) (l ∷ []) start b o p r w (record { length = s .length; next = w .next }) (g .rows)
               (count-one message l (r .next) (s .length) e _ q k refl n)
               (rw (append-nil (ended line)) (behind-written (textOf (drawn (replicate i l) (drop start message))) (ended line) b (g .rows .output) (g .rows .count) (v .output)))
               a (c ∙ ap (max (r .measure)) (v .measure ∙ omega arith)) refl);
@@ -447,7 +412,7 @@ module _ (f : Line → List ℕ) (t : Line → ℕ) (xs : List Line) (i : ℕ) w
         ∙ ap (λ (ps : List (List ℕ)). ps ++ map f (spread t (drop (i + 1) xs))) lines-more
 
     -- written: they fit behind the first ones, and then they stand there too
-    module _ (message b o : List ℕ) (r : RowPut) (g : Writing message 0 b firstLines o r) (fits : length (textOf (drawn (map f (spread t xs)) message)) ≤ length b) where
+    module _ (message b o : List ℕ) (r : RowPut) (whole : ℕ) (g : Writing whole message 0 b firstLines o r) (fits : length (textOf (drawn (map f (spread t xs)) message)) ≤ length b) where
       pub next-fits : (r .length + length (textOf (drawn (replicate n l) (drop (r .next) message))) ≤ length o)
           × (length (textOf (drawn (replicate n l) (drop (r .next) message))) ≤ length (take (length o - r .length) (drop (r .length) o)))
       next-fits =
@@ -457,14 +422,14 @@ module _ (f : Line → List ℕ) (t : Line → ℕ) (xs : List Line) (i : ℕ) w
             omega (arith, k, g .same, g .rows .count, length-take (length o - r .length) (drop (r .length) o), length-drop (r .length) o),
           )
 
-      pub next-written : (p : List ℕ) (s w : RowPut) → RowPuts (replicate n l) message (r .next) (take (length o - r .length) (drop (r .length) o)) p s
+      pub next-written : (p : List ℕ) (s w : RowPut) → RowPuts whole (replicate n l) message (r .next) (take (length o - r .length) (drop (r .length) o)) p s
           → length p ≡ length (take (length o - r .length) (drop (r .length) o))
           → w .length ≡ r .length + s .length → w .measure ≡ max (r .measure) (s .measure) → w .next ≡ s .next
-          → Writing message 0 b (map f (spread t (take (i + 1) xs))) (take (r .length) o ++ (p ++ drop (length o - r .length) (drop (r .length) o))) w
+          → Writing whole message 0 b (map f (spread t (take (i + 1) xs))) (take (r .length) o ++ (p ++ drop (length o - r .length) (drop (r .length) o))) w
       next-written p s w u same a m z =
           record {
             same = part-length o p (r .length) same (omega (arith, next-fits .0)) ∙ g .same;
-            rows = rw lines-more (row-part message firstLines (replicate n l) 0 b o p r s w (g .rows) u a m z);
+            rows = rw lines-more (row-part whole message firstLines (replicate n l) 0 b o p r s w (g .rows) u a m z);
           }
 
 -- counted: none of the prefix lines has more than 512 bytes

@@ -2,7 +2,7 @@
 use mathlib.Core.Path.{_≡_, refl, sym, ap, ap₂, _∙_}
 use mathlib.Core.Bool.{Bool, true, false, cond, not, _&&_}
 use mathlib.Core.List.{List, [], _∷_, _++_, map}
-use Prim.Native.Nat.{ℕ, suc, _+_, _-_, _*_, _<_, _≤_, max}
+use Prim.Native.Nat.{ℕ, suc, _+_, _-_, _*_, _<_, _≤_, min, max}
 use native.Mathlib.Nat.{mul-le-mul}
 use native.Mathlib.Omega.{arith}
 use borrow.Author.Tests.{lt-ltb, le-ltb, le-leb, leb-true, leb-false}
@@ -16,6 +16,8 @@ use Rattle.render.specs.declared.types.DashStyle.{DashStyle}
 use Rattle.render.specs.declared.types.LinkLinePlacement.{LinkLinePlacement}
 use Rattle.render.specs.declared.types.LinkLinePlacement.the-variants.{Top, Bottom}
 use Rattle.render.specs.declared.types.RowShape.{RowShape}
+use Rattle.render.specs.Lines.{cellsOf}
+use Rattle.render.specs.Mark.{isMark}
 use Rattle.render.specs.Refusals.{outputShorterThanLines}
 use Rattle.shaper.specs.Shaper.{heightLimit}
 use Rattle.glyphs.specs.declared.Renderer.{Renderer}
@@ -30,17 +32,18 @@ use Rattle.glyphs.specs.LinkTable.{named}
 use Rattle.glyphs.specs.Tables.{Tables, numbersFrom, numbersIn, cellsText, WritesCells}
 use Rattle.glyphs.proofs.PlaceLaws.{length-places}
 use Rattle.glyphs.proofs.TableLaws.{table-line}
-use Rattle.message.specs.Message.{linesOf, messageLimit}
+use Rattle.message.specs.Message.{isWritable, allOf, linesOf, messageLimit}
 use Rattle.message.specs.Inner.{otherLines}
 use Rattle.message.proofs.MessageLaws.{lines-few}
 use Rattle.output.specs.declared.Put.{Put}
 use Rattle.output.specs.declared.TextState.{TextState}
-use Rattle.output.specs.Output.{queueLimit, finish, ended, textOf, lineMeasure, TextView, textViewOf, beginRow, Puts}
+use Rattle.output.specs.Output.{queueLimit, finish, ended, textOf, greatest, lineMeasure, TextView, textViewOf, beginRow, Puts}
 use Rattle.output.proofs.PutLaws.{measure-append, text-length, begin-short, put-count, put-bytes, put-measure}
 use Rattle.text.specs.declared.prefix_lines_to_text.Plan.{Plan}
 use Rattle.text.specs.declared.prefix_lines_to_text.RowText.{RowText}
 use Rattle.text.specs.Text.{isRepeatable, isBottom, times, needed, repeated, withMessages, prefix, rowLines, textAfter, textLines}
-use Rattle.text.specs.Inner.{lineWith, drawn, spread, one, lineTimes, fixedLines, planOf, prefixes, allLinesOf, mostBytes, waits, stateAfter, QueueFits, RowWith, RowTexts}
+use Rattle.text.specs.Inner.{lineWith, drawn, prefixMeasure, measuresWith, wholeMeasure, measureIn, spread, one, lineTimes, fixedLines, planOf, prefixes, allLinesOf, mostBytes, waits, stateAfter, QueueFits, RowWith, RowTexts}
+use Rattle.text.proofs.SpanLaws.{own-two, prefix-spans, AllSpan, span-map, lines-measure}
 use Rattle.text.proofs.RepeatLaws.{cells-short, drawn-messages, spread-length, map-append, map-times, short-map, drawn-short}
 
 -- ---- the text state after a row
@@ -274,7 +277,7 @@ module _ (table : List ℕ) (d : Drawing) (p : Plan) (m : List ℕ) (t : TextVie
       row-fits =
           omega (arith, all-fit, text-length first others, put-count first before o a w first-fit, length-take (length o - a .length) (drop (a .length) o), length-drop (a .length) o)
 
-      pub room : (r : RowText) (u : List ℕ) (s : Put) → s .length ≡ length (textOf others) → s .measure ≡ lineMeasure others
+      pub room : (r : RowText) (u : List ℕ) (s : Put) → s .length ≡ length (textOf others) → s .measure ≡ greatest (measuresWith (wholeMeasure d) (prefixes table d p) m)
           → u ≡ over (textOf others) (take (length o - a .length) (drop (a .length) o))
           → r .refusal ≡ 0 → r .length ≡ a .length + s .length → r .measure ≡ max (a .measure) (s .measure) → textViewOf (r .state) ≡ stateAfter table d p → QueueFits (r .state)
           → RowWith table d p m t b before (take (a .length) o ++ (u ++ drop (length o - a .length) (drop (a .length) o))) r
@@ -285,7 +288,7 @@ module _ (table : List ℕ) (d : Drawing) (p : Plan) (m : List ℕ) (t : TextVie
             kept = λ y. absurd (y e);
             written = λ y. (
               c ∙ ap₂ _+_ x n ∙ sym (text-length first others),
-              g ∙ ap₂ max (put-measure first before o a w first-fit) k ∙ sym (measure-append first others),
+              g ∙ ap₂ max (put-measure first before o a w first-fit) k,
               part-written (textOf first) (textOf others) before (put-bytes first before o a w first-fit) x v ∙ ap (λ (l : List ℕ). over l before) (sym (joins-append ended first others)),
               i,
               j,
@@ -305,14 +308,26 @@ module _ (t : TextState) (q : Renderer) (g : RowShape) (mark : ℕ) (m : List �
     rw (plan-is, de) refl,
   )
 
-  pub texts : (table : List ℕ) → Tables table (glyphsOf q) q mark → (before after : List ℕ) (r : RowText)
-      → RowWith table d p m (textViewOf t) (g .«separator_line») before after r → RowTexts (textViewOf t) q g mark m height before after r
-  texts table holds before after r w =
-      let ls : allLinesOf table d p m (textViewOf t) (g .«separator_line») ≡ textLines finish (glyphsOf q) (textViewOf t) q g mark (linesOf m) height
-      = rw (plan-is, de) (ap (λ (x : List (List ℕ)). beginRow finish (g .«separator_line») (textViewOf t) ++ x) (rows-same q g mark table holds m height)) in
-      let s : stateAfter table d p ≡ textAfter (glyphsOf q) q g mark (linesOf m) height = rw (plan-is, de) (state-same q g mark table holds m height) in
-      record {
-        refusal = rw ls at (w .refusal);
-        kept = w .kept;
-        written = λ y. rw (ls, s) at (w .written y);
-      }
+  -- each prefix line measures what the renderer's do
+  module _ (table : List ℕ) (holds : Tables table (glyphsOf q) q mark) (marked : isMark mark ≡ true) (long : length (g .cells) ≡ columnLimit) where
+    prefixes-span : AllSpan (wholeMeasure d) (prefixes table d p)
+    prefixes-span =
+        let n : min (g .width) columnLimit ≡ length (cellsOf g) = omega (arith, length-take (g .width) (g .cells), long) in
+        rw de (span-map (prefixMeasure q (min (g .width) columnLimit)) (λ (l : Line). cellsText table (numbersIn table (drawingOf g q mark) l))
+        (λ (l : Line). rw (n, prefix-same q g mark table holds l) (prefix-spans mark marked (glyphsOf q) q (own-two q) g l)) (spread (lineTimes p q (rowOf g)) allLines))
+
+    pub texts : allOf isWritable m ≡ true → (before after : List ℕ) (r : RowText)
+        → RowWith table d p m (textViewOf t) (g .«separator_line») before after r → RowTexts (textViewOf t) q g mark m height before after r
+    texts writable before after r w =
+        let first : List (List ℕ) = beginRow finish (g .«separator_line») (textViewOf t) in
+        let ls : allLinesOf table d p m (textViewOf t) (g .«separator_line») ≡ textLines finish (glyphsOf q) (textViewOf t) q g mark (linesOf m) height
+        = rw (plan-is, de) (ap (λ (x : List (List ℕ)). first ++ x) (rows-same q g mark table holds m height)) in
+        let s : stateAfter table d p ≡ textAfter (glyphsOf q) q g mark (linesOf m) height = rw (plan-is, de) (state-same q g mark table holds m height) in
+        let k : measureIn table d p m (textViewOf t) (g .«separator_line») ≡ lineMeasure (allLinesOf table d p m (textViewOf t) (g .«separator_line»))
+        = ap (λ (ns : List ℕ). max (lineMeasure first) (greatest ns)) (lines-measure (wholeMeasure d) (prefixes table d p) m prefixes-span writable)
+        ∙ sym (measure-append first (drawn (prefixes table d p) m)) in
+        record {
+          refusal = rw ls at (w .refusal);
+          kept = w .kept;
+          written = λ y. let o = w .written y in (rw ls at (o .0), o .1 ∙ k ∙ ap lineMeasure ls, rw ls at (o .2), rw s at (o .3), o .4);
+        }

@@ -6,59 +6,24 @@ use Prim.Native.Nat.{ℕ, zero, suc, _+_, _-_, _<_, _≤_}
 use native.Mathlib.Numerals.{add-one}
 use native.Mathlib.Omega.{arith}
 use lib.Dec.{eqb}
-use lib.ListN.{length, take, drop, getD, set, replicate, length-append, length-take, length-drop, length-replicate, getD-replicate, drop-of-length-le}
+use lib.ListN.{length, take, drop, getD, set, replicate, length-append, length-drop, length-replicate, getD-replicate, drop-of-length-le}
 use lib.Seq.{take-at, take-all, length-take-le, getD-take, paste, paste-suc}
 use borrow.Author.Tests.{eqb-true, eqb-false, eq-eqb, ne-eqb}
 use Rattle.slices.specs.Characters.{newline, blank}
 use Rattle.slices.specs.Joins.{over, Writes}
 use Rattle.slices.proofs.OverLaws.{so-far, so-far-step, so-far-end, over-one, length-over, part-room, part-written, wrote, wrote-count}
-use Rattle.message.specs.Message.{trimEnd, keepLast}
-use Rattle.message.proofs.MessageLaws.{keep-more, trim-length, trim-front, trim-behind}
+use Rattle.message.specs.Message.{trimEnd}
+use Rattle.message.proofs.MessageLaws.{keep-more, trim-length, trim-front, trim-behind, trim-take}
 use Rattle.glyphs.specs.Tables.{WritesCells}
 use Rattle.glyphs.proofs.WriteLaws.{cells-count, cells-then}
-use Rattle.output.specs.Output.{ended, measureOf}
+use Rattle.output.specs.Output.{ended}
 use Rattle.text.specs.declared.lines.Lengths.{Lengths}
-use Rattle.text.specs.Inner.{Measured, lineWith, behindFinished, prefixAgain, WritesLine, WritesLineAt}
+use Rattle.text.specs.Inner.{Measured, lineWith, measureWith, behindFinished, prefixAgain, WritesLine, WritesLineAt}
 
 -- ---- blanks at the end
 nothing : (l : List ℕ) → length l ≡ 0 → l ≡ []
 nothing [] e = refl
 nothing (x ∷ l) e = absurd (omega (arith, e))
-
--- bytes are what is left of them, and the blanks that it lacks
-pub trim-blanks : (s : List ℕ) → s ≡ trimEnd s ++ replicate (length s - length (trimEnd s)) blank
-trim-blanks [] = refl
-trim-blanks (x ∷ xs) = go (trimEnd xs) (trim-blanks xs)
-  where
-    go : (t : List ℕ) → xs ≡ t ++ replicate (length xs - length t) blank → x ∷ xs ≡ keepLast x t ++ replicate (suc (length xs) - length (keepLast x t)) blank
-    go [] e = by-test (eqb x blank) refl
-      where
-        z : length xs - 0 ≡ length xs
-        z = omega arith
-
-        by-test : (b : Bool) → eqb x blank ≡ b → x ∷ xs ≡ keepLast x [] ++ replicate (suc (length xs) - length (keepLast x [])) blank
-        by-test true q =
-            let k : suc (length xs) - 0 ≡ suc (length xs) = omega arith in
-            rw (q, k, eqb-true x blank q) (ap (λ (l : List ℕ). blank ∷ l) (rw z at e))
-        by-test false q =
-            let k : suc (length xs) - 1 ≡ length xs - 0 = omega arith in
-            rw (q, k) (ap (λ (l : List ℕ). x ∷ l) e)
-    go (y ∷ t) e =
-        let k : suc (length xs) - suc (suc (length t)) ≡ length xs - suc (length t) = omega arith in
-        rw k (ap (λ (l : List ℕ). x ∷ l) e)
-
--- what is left has no more to lose
-pub trim-again : (s : List ℕ) → trimEnd (trimEnd s) ≡ trimEnd s
-trim-again [] = refl
-trim-again (x ∷ xs) = go (trimEnd xs) (trim-again xs)
-  where
-    go : (t : List ℕ) → trimEnd t ≡ t → trimEnd (keepLast x t) ≡ keepLast x t
-    go [] e = by-test (eqb x blank) refl
-      where
-        by-test : (b : Bool) → eqb x blank ≡ b → trimEnd (keepLast x []) ≡ keepLast x []
-        by-test true q = rw q refl
-        by-test false q = rw q (rw q refl)
-    go (y ∷ t) e = ap (keepLast x) e
 
 blanks-go : (n : ℕ) → trimEnd (replicate n blank) ≡ []
 blanks-go zero = refl
@@ -114,33 +79,35 @@ module _ (part d : List ℕ) (room : length part + 2 ≤ length d) where
       (omega (arith, wrote-count (ended part) lent p k w h, ended-length part), part-written (blank ∷ []) (ended part) d first-blank refl (wrote (ended part) lent p k w h))
 
 -- ---- a line with cells
-module _ (xs part d : List ℕ) (n : ℕ) (e : n ≡ length (trimEnd part)) (room : length (ended (lineWith xs part)) ≤ length d) where
+module _ (xs part d : List ℕ) (whole n : ℕ) (e : n ≡ length (trimEnd part)) (room : length (ended (lineWith xs part)) ≤ length d) where
   -- a message line of blanks: the finished cells, and the end
-  module _ (z : n ≡ 0) (o : List ℕ) (end : ℕ) (w : Writes (trimEnd xs) d o end) where
+  module _ (z : n ≡ 0) (blanks : ℕ) (f : blanks ≡ length xs - length (trimEnd xs)) (o : List ℕ) (end : ℕ) (w : Writes (take (length xs - blanks) xs) d o end) where
     none-line : lineWith xs part ≡ trimEnd xs
     none-line = line-none xs part (sym e ∙ z)
 
     none-fits : length (trimEnd xs) < length d
     none-fits = omega (arith, ap length none-line, ended-length (lineWith xs part), room)
 
-    pub none-end : end ≡ length (trimEnd xs)
-    none-end = wrote-count (trimEnd xs) d o end w (omega (arith, none-fits))
+    finished-written : Writes (trimEnd xs) d o end
+    finished-written =
+        let k : length xs - blanks ≡ length (trimEnd xs) = omega (arith, f, trim-length xs) in
+        rw (k, trim-take xs) at w
+
+    none-end : end ≡ length (trimEnd xs)
+    none-end = wrote-count (trimEnd xs) d o end finished-written (omega (arith, none-fits))
 
     pub none-room : end < length d
     none-room = omega (arith, none-end, none-fits)
 
     none-written : set o end newline ≡ over (ended (trimEnd xs)) d
-    none-written = over-one (trimEnd xs) d newline (wrote (trimEnd xs) d o end w (omega (arith, none-fits))) none-end none-fits
+    none-written = over-one (trimEnd xs) d newline (wrote (trimEnd xs) d o end finished-written (omega (arith, none-fits))) none-end none-fits
 
-    pub none-done : (m : ℕ) → m ≡ measureOf (take (end - 0) (drop 0 (set o end newline)))
-        → WritesLine (lineWith xs part) d (set o end newline) (record { length = end + 1; measure = m })
-    none-done m f =
-        let k : length (set o end newline) ≡ length d
-        = ap length none-written ∙ length-over (ended (trimEnd xs)) d (omega (arith, ended-length (trimEnd xs), none-fits)) in
+    pub none-done : (m : ℕ) → m ≡ whole - blanks → WritesLine xs part whole d (set o end newline) (record { length = end + 1; measure = m })
+    none-done m g =
         record {
           count = omega (arith, none-end, ap length none-line, ended-length (lineWith xs part));
           output = none-written ∙ ap (λ (l : List ℕ). over (ended l) d) (sym none-line);
-          measure = omega (arith, f, length-take (end - 0) (set o end newline), k, none-end, none-fits, ap length none-line);
+          measure = rw (eq-eqb (length (trimEnd part)) 0 (sym e ∙ z), ← f) g;
         }
 
   -- and one of more: all cells, a blank, the message line and the end
@@ -160,30 +127,27 @@ module _ (xs part d : List ℕ) (n : ℕ) (e : n ≡ length (trimEnd part)) (roo
     pub some-room : length xs + (n + 2) ≤ length d
     some-room = omega (arith, ap length some-bytes, length-append xs rest, rest-length, room)
 
+    pub some-measure : whole + n + 1 ≡ measureWith whole xs part
+    some-measure = rw (ne-eqb (length (trimEnd part)) 0 (λ z. some (e ∙ z)), ← e) refl
+
     module _ (o : List ℕ) (at : ℕ) (w : WritesCells xs (n + 2) d o at) where
       pub some-end : at ≡ length xs
       some-end = cells-count xs (n + 2) d o at w some-room
 
-      pub some-done : (p : List ℕ) (k m : ℕ) → length o ≡ length d
+      pub some-done : (p : List ℕ) (k : ℕ) → length o ≡ length d
           → (k ≡ length (take (n - 0) (drop 0 part)) + 2) × (p ≡ over (blank ∷ ended (take (n - 0) (drop 0 part))) (take (length o - at) (drop at o)))
-          → m ≡ measureOf (take (at + k - 1 - 0) (drop 0 (take at o ++ (p ++ drop (length o - at) (drop at o)))))
-          → WritesLine (lineWith xs part) d (take at o ++ (p ++ drop (length o - at) (drop at o))) (record { length = at + k; measure = m })
-      some-done p k m same (f, g) q =
+          → WritesLine xs part whole d (take at o ++ (p ++ drop (length o - at) (drop at o))) (record { length = at + k; measure = whole + n + 1 })
+      some-done p k same (f, g) =
           let z : n - 0 ≡ n = omega arith in
           let all : take (length o - at) (drop at o) ≡ drop at o = take-all (length o - at) (drop at o) (rw (length-drop at o) (omega arith)) in
           let gone : drop (length o - at) (drop at o) ≡ [] = drop-of-length-le (drop at o) {i = length o - at} (rw (length-drop at o) (omega arith)) in
           let w-is : take (n - 0) (drop 0 part) ≡ trimEnd part = rw z t in
           let p-is : p ≡ over rest (drop at o) = rw (w-is, all) at g in
           let back : take at o ++ (p ++ drop (length o - at) (drop at o)) ≡ take at o ++ over rest (drop at o) = rw (gone, append-nil, p-is) refl in
-          let whole : take at o ++ (p ++ drop (length o - at) (drop at o)) ≡ over (ended (lineWith xs part)) d
-          = cells-then xs rest d o at (rw rest-length w) (rw rest-length some-room) back ∙ ap (λ (l : List ℕ). over l d) some-bytes in
-          let long : length (take at o ++ (p ++ drop (length o - at) (drop at o))) ≡ length d = ap length whole ∙ length-over (ended (lineWith xs part)) d room in
-          let count : at + k ≡ length (ended (lineWith xs part))
-          = omega (arith, some-end, f, ap length w-is, e, ap length some-bytes, length-append xs rest, rest-length) in
           record {
-            count = count;
-            output = whole;
-            measure = omega (arith, q, length-take (at + k - 1 - 0) (take at o ++ (p ++ drop (length o - at) (drop at o))), long, count, room, ended-length (lineWith xs part));
+            count = omega (arith, some-end, f, ap length w-is, e, ap length some-bytes, length-append xs rest, rest-length);
+            output = cells-then xs rest d o at (rw rest-length w) (rw rest-length some-room) back ∙ ap (λ (l : List ℕ). over l d) some-bytes;
+            measure = some-measure;
           }
 
 -- ---- loops over bytes
@@ -212,35 +176,39 @@ module _ (d : List ℕ) (count i : ℕ) (room : count ≤ length d) {o : List �
   blank-end h k = so-far-end (replicate count blank) d i e (omega (arith, length-replicate count blank))
 
 -- ---- what stands behind a finished prefix line
-module _ (blanks : ℕ) (part d : List ℕ) (n : ℕ) (e : n ≡ length (trimEnd part)) (room : length (behindFinished blanks part) ≤ length d) where
-  module _ (z : n ≡ 0) where
-    behind-end : behindFinished blanks part ≡ newline ∷ []
-    behind-end = rw (eq-eqb (length (trimEnd part)) 0 (sym e ∙ z)) refl
+module _ (blanks : ℕ) (part : List ℕ) (n : ℕ) (e : n ≡ length (trimEnd part)) where
+  -- the end alone
+  behind-end : n ≡ 0 → behindFinished blanks part ≡ newline ∷ []
+  behind-end z = rw (eq-eqb (length (trimEnd part)) 0 (sym e ∙ z)) refl
 
-    pub behind-none : (1 ≡ length (behindFinished blanks part)) × (set d 0 newline ≡ over (behindFinished blanks part) d)
-    behind-none = rw behind-end (refl, over-one [] d newline refl refl (omega (arith, ap length behind-end, room)))
-
-  module _ (some : n ≡ 0 → ⊥) (t : take n part ≡ trimEnd part) where
+  -- or more
+  module _ (some : n ≡ 0 → ⊥) where
     behind-more : behindFinished blanks part ≡ replicate blanks blank ++ (blank ∷ ended (trimEnd part))
     behind-more = rw (ne-eqb (length (trimEnd part)) 0 (λ z. some (e ∙ z))) refl
 
-    pub behind-room : blanks + (n + 2) ≤ length d
-    behind-room =
-        omega (arith, ap length behind-more, length-append (replicate blanks blank) (blank ∷ ended (trimEnd part)), length-replicate blanks blank, ended-length (trimEnd part), e, room)
+    behind-length : length (behindFinished blanks part) ≡ blanks + (n + 2)
+    behind-length =
+        omega (arith, ap length behind-more, length-append (replicate blanks blank) (blank ∷ ended (trimEnd part)), length-replicate blanks blank, ended-length (trimEnd part), e)
 
-    pub behind-done : (o p : List ℕ) (k : ℕ) → o ≡ over (replicate blanks blank) d
-        → (k ≡ length (take (n - 0) (drop 0 part)) + 2) × (p ≡ over (blank ∷ ended (take (n - 0) (drop 0 part))) (take (length o - blanks) (drop blanks o)))
-        → (blanks + k ≡ length (behindFinished blanks part))
-        × (take blanks o ++ (p ++ drop (length o - blanks) (drop blanks o)) ≡ over (behindFinished blanks part) d)
-    behind-done o p k f (g, h) =
-        let z : n - 0 ≡ n = omega arith in
-        let w : take (n - 0) (drop 0 part) ≡ trimEnd part = rw z t in
-        let c : blanks + k ≡ length (behindFinished blanks part)
-        = omega (arith, g, ap length w, ap length behind-more, length-append (replicate blanks blank) (blank ∷ ended (trimEnd part)), length-replicate blanks blank, ended-length (trimEnd part)) in (
-          c,
-          part-written (replicate blanks blank) (blank ∷ ended (trimEnd part)) d f (sym (length-replicate blanks blank)) (rw w at h)
-              ∙ ap (λ (l : List ℕ). over l d) (sym behind-more),
-        )
+  module _ (d : List ℕ) (room : length (behindFinished blanks part) ≤ length d) where
+    pub behind-none : n ≡ 0 → (1 ≡ length (behindFinished blanks part)) × (set d 0 newline ≡ over (behindFinished blanks part) d)
+    behind-none z = rw (behind-end z) (refl, over-one [] d newline refl refl (omega (arith, ap length (behind-end z), room)))
+
+    module _ (some : n ≡ 0 → ⊥) (t : take n part ≡ trimEnd part) where
+      pub behind-room : blanks + (n + 2) ≤ length d
+      behind-room = omega (arith, behind-length some, room)
+
+      pub behind-done : (o p : List ℕ) (k : ℕ) → o ≡ over (replicate blanks blank) d
+          → (k ≡ length (take (n - 0) (drop 0 part)) + 2) × (p ≡ over (blank ∷ ended (take (n - 0) (drop 0 part))) (take (length o - blanks) (drop blanks o)))
+          → (blanks + k ≡ length (behindFinished blanks part))
+          × (take blanks o ++ (p ++ drop (length o - blanks) (drop blanks o)) ≡ over (behindFinished blanks part) d)
+      behind-done o p k f (g, h) =
+          let z : n - 0 ≡ n = omega arith in
+          let w : take (n - 0) (drop 0 part) ≡ trimEnd part = rw z t in (
+            omega (arith, g, ap length w, e, behind-length some),
+            part-written (replicate blanks blank) (blank ∷ ended (trimEnd part)) d f (sym (length-replicate blanks blank)) (rw w at h)
+                ∙ ap (λ (l : List ℕ). over l d) (sym (behind-more some)),
+          )
 
 -- it has a byte at least, the end
 pub behind-some : (blanks : ℕ) (part : List ℕ) → 0 < length (behindFinished blanks part)
@@ -264,10 +232,6 @@ behind-line f part b e = go (eqb (length (trimEnd part)) 0) refl
         let n : length (trimEnd part) ≡ 0 → ⊥ = eqb-false (length (trimEnd part)) 0 q in
         rw (q, line-some whole part (omega (arith, n))) (simp append-assoc)
 
--- a prefix line whose finished bytes stand in the output
-pub prefix-same : (xs out : List ℕ) (r : Lengths) → Measured xs r → take (r .finished) out ≡ trimEnd xs → prefixAgain r out ≡ xs
-prefix-same xs out r m e = rw (e, m .all, m .finished) (sym (trim-blanks xs))
-
 module _ (r : Lengths) (at : ℕ) (part d : List ℕ) (within : r .finished ≤ at) (e : trimEnd (take (r .finished) d) ≡ take (r .finished) d)
     (room : at + length (ended (lineWith (prefixAgain r d) part)) ≤ length d) where
   abbrev front : List ℕ
@@ -288,26 +252,66 @@ module _ (r : Lengths) (at : ℕ) (part d : List ℕ) (within : r .finished ≤ 
   pub again-room : at + (r .finished + length (behindFinished (r .all - r .finished) part)) ≤ length d
   again-room = omega (arith, again-length, room)
 
-  pub again-done : (o p : List ℕ) (k m : ℕ) → length o ≡ length d → o ≡ take at d ++ (take (r .finished) d ++ drop (at + r .finished) d)
-      → (k ≡ length (behindFinished (r .all - r .finished) part))
-      × (p ≡ over (behindFinished (r .all - r .finished) part) (take (length o - (at + r .finished)) (drop (at + r .finished) o)))
-      → m ≡ measureOf (take (at + (r .finished + k) - 1 - at) (drop at (take (at + r .finished) o ++ (p ++ drop (length o - (at + r .finished)) (drop (at + r .finished) o)))))
-      → WritesLineAt (lineWith (prefixAgain r d) part) at d (take (at + r .finished) o ++ (p ++ drop (length o - (at + r .finished)) (drop (at + r .finished) o)))
-      (record { length = r .finished + k; measure = m })
-  again-done o p k m same f (g, h) q =
+  -- where it is written so, the end alone stands behind a message line of blanks, and else the blanks, a blank, the message line and the end
+  module _ (k : ℕ) (c : k ≡ length (behindFinished (r .all - r .finished) part)) where
+    end-alone : k ≡ 1 → length (trimEnd part) ≡ 0
+    end-alone z = go (length (trimEnd part)) refl
+      where
+        go : (n : ℕ) → length (trimEnd part) ≡ n → n ≡ 0
+        go zero f = refl
+        go (suc n) f = absurd (omega (arith, z, c, behind-length (r .all - r .finished) part (suc n) (sym f) (λ y. omega (arith, y))))
+
+    more-than-end : (k ≡ 1 → ⊥) → length (trimEnd part) ≡ 0 → ⊥
+    more-than-end z f = z (c ∙ ap length (behind-end (r .all - r .finished) part 0 (sym f) refl))
+
+    pub more-there : (k ≡ 1 → ⊥) → k ≡ (r .all - r .finished) + (length (trimEnd part) + 2)
+    more-there z = c ∙ behind-length (r .all - r .finished) part (length (trimEnd part)) refl (more-than-end z)
+
+  -- as it stands in the output
+  again-line-there : (o p : List ℕ) → length o ≡ length d → o ≡ take at d ++ (take (r .finished) d ++ drop (at + r .finished) d)
+      → p ≡ over (behindFinished (r .all - r .finished) part) (take (length o - (at + r .finished)) (drop (at + r .finished) o))
+      → take (at + r .finished) o ++ (p ++ drop (length o - (at + r .finished)) (drop (at + r .finished) o))
+      ≡ take at d ++ (ended (lineWith (prefixAgain r d) part) ++ drop (at + length (ended (lineWith (prefixAgain r d) part))) d)
+  again-line-there o p same f h =
       let l : List ℕ = lineWith (prefixAgain r d) part in
       let from : ℕ = at + r .finished in
-      let result : List ℕ = take from o ++ (p ++ drop (length o - from) (drop from o)) in
       let a : length (take at d) ≡ at = length-take-le at d (omega (arith, room)) in
       let b : length (take at d ++ front) ≡ from = omega (arith, length-append (take at d) front, a, front-length) in
       let o-is : o ≡ over (take at d ++ front) d = f ∙ sym (append-assoc (take at d) front (drop from d)) ∙ ap (λ (j : ℕ). (take at d ++ front) ++ drop j d) (sym b) in
       let w : (take at d ++ front) ++ behind ≡ take at d ++ ended l = append-assoc (take at d) front behind ∙ ap (λ (y : List ℕ). take at d ++ y) again-line in
       let v : length (take at d ++ ended l) ≡ at + length (ended l) = omega (arith, length-append (take at d) (ended l), a) in
-      let whole : result ≡ over (take at d ++ ended l) d
-      = part-written (take at d ++ front) behind d o-is (sym b) h ∙ ap (λ (y : List ℕ). over y d) w in
-      let long : length result ≡ length d = ap length whole ∙ length-over (take at d ++ ended l) d (omega (arith, v, room)) in
-      record {
-        count = omega (arith, g, again-length);
-        output = whole ∙ append-assoc (take at d) (ended l) (drop (length (take at d ++ ended l)) d) ∙ ap (λ (j : ℕ). take at d ++ (ended l ++ drop j d)) v;
-        measure = omega (arith, q, length-take (at + (r .finished + k) - 1 - at) (drop at result), length-drop at result, long, g, again-length, ended-length l, room);
-      }
+      part-written (take at d ++ front) behind d o-is (sym b) h ∙ ap (λ (y : List ℕ). over y d) w
+      ∙ append-assoc (take at d) (ended l) (drop (length (take at d ++ ended l)) d) ∙ ap (λ (j : ℕ). take at d ++ (ended l ++ drop j d)) v
+
+  -- the blanks at its end
+  again-blanks : length (prefixAgain r d) - length (trimEnd (prefixAgain r d)) ≡ r .all - r .finished
+  again-blanks =
+      let b : ℕ = r .all - r .finished in
+      omega (
+        arith,
+        ap length (trim-front front (replicate b blank) (blanks-go b) ∙ e),
+        length-append front (replicate b blank),
+        length-replicate b blank,
+      )
+
+  module _ (whole k : ℕ) (o p : List ℕ) (same : length o ≡ length d) (f : o ≡ take at d ++ (take (r .finished) d ++ drop (at + r .finished) d))
+      (g : (k ≡ length (behindFinished (r .all - r .finished) part)) × (p ≡ over (behindFinished (r .all - r .finished) part) (take (length o - (at + r .finished)) (drop (at + r .finished) o)))) where
+    pub again-none : k ≡ 1 → (m : ℕ) → m ≡ whole - (r .all - r .finished)
+        → WritesLineAt (prefixAgain r d) part whole at d (take (at + r .finished) o ++ (p ++ drop (length o - (at + r .finished)) (drop (at + r .finished) o)))
+        (record { length = r .finished + 1; measure = m })
+    again-none z m h =
+        record {
+          count = omega (arith, again-length, g .0, z);
+          output = again-line-there o p same f (g .1);
+          measure = rw (eq-eqb (length (trimEnd part)) 0 (end-alone k (g .0) z), again-blanks) h;
+        }
+
+    pub again-some : (k ≡ 1 → ⊥)
+        → WritesLineAt (prefixAgain r d) part whole at d (take (at + r .finished) o ++ (p ++ drop (length o - (at + r .finished)) (drop (at + r .finished) o)))
+        (record { length = r .finished + k; measure = whole + (k - (r .all - r .finished)) - 1 })
+    again-some z =
+        record {
+          count = omega (arith, again-length, g .0);
+          output = again-line-there o p same f (g .1);
+          measure = rw (ne-eqb (length (trimEnd part)) 0 (more-than-end k (g .0) z)) (omega (arith, more-there k (g .0) z));
+        }

@@ -1,5 +1,5 @@
 -- What the inner functions of text give.
-use Prim.Native.Nat.{ℕ, _+_, _-_, _*_, _≤_, max}
+use Prim.Native.Nat.{ℕ, _+_, _-_, _*_, _≤_, min, max}
 use mathlib.Core.Path.{_≡_}
 use mathlib.Core.Bool.{Bool, false, cond, _&&_}
 use mathlib.Core.List.{List, [], _∷_, _++_, map}
@@ -7,6 +7,7 @@ use lib.Dec.{eqb, ltb}
 use lib.ListN.{length, take, drop, replicate}
 use Rattle.slices.specs.Characters.{newline, blank}
 use Rattle.slices.specs.Joins.{over}
+use Rattle.column.specs.Columns.{columnLimit}
 use Rattle.render.specs.declared.types.LinkLinePlacement.{LinkLinePlacement}
 use Rattle.render.specs.declared.types.RowShape.{RowShape}
 use Rattle.render.specs.Refusals.{notRefused, outputShorterThanLines}
@@ -17,11 +18,11 @@ use Rattle.glyphs.specs.declared.types.Drawing.{Drawing}
 use Rattle.glyphs.specs.declared.types.Line.{Line}
 use Rattle.glyphs.specs.declared.types.Line.the-variants.{Link, SecondLink, Term, SecondTerm, Ancestry, PostAncestry}
 use Rattle.glyphs.specs.declared.types.Row.{Row}
-use Rattle.glyphs.specs.Cells.{allLines, isPresent, glyphsOf}
+use Rattle.glyphs.specs.Cells.{allLines, isLarge, isPresent, glyphsOf}
 use Rattle.glyphs.specs.Tables.{numbersIn, cellsText}
 use Rattle.output.specs.declared.Put.{Put}
 use Rattle.output.specs.declared.TextState.{TextState}
-use Rattle.output.specs.Output.{queueLimit, finish, ended, textOf, measureOf, lineMeasure, TextView, textViewOf, beginRow}
+use Rattle.output.specs.Output.{queueLimit, finish, ended, textOf, greatest, lineMeasure, TextView, textViewOf, beginRow}
 use Rattle.text.specs.declared.lines.Lengths.{Lengths}
 use Rattle.text.specs.declared.prefix_lines_to_text.Counted.{Counted}
 use Rattle.text.specs.declared.prefix_lines_to_text.Plan.{Plan}
@@ -48,17 +49,26 @@ behindFinished blanks part = cond (eqb (length (trimEnd part)) 0) (newline ∷ [
 abbrev pub prefixAgain : Lengths → List ℕ → List ℕ
 prefixAgain r out = take (r .finished) out ++ replicate (r .all - r .finished) blank
 
--- a finished line written with its end at the start of an output: its count and its measure
-pub record WritesLine (l before after : List ℕ) (r : Put) : Type 0 where
-  pub count : r .length ≡ length (ended l)
-  pub output : after ≡ over (ended l) before
-  pub measure : r .measure ≡ measureOf l
+-- the measure of a prefix line of so many of a row's cells: 2 for each, in large ASCII 3 for each but the first, which measures 2
+abbrev pub prefixMeasure : Renderer → ℕ → ℕ
+prefixMeasure q n = cond (isLarge q) (3 * n - 1) (2 * n)
+
+-- the measure of a prefix line with a message line, finished, where the prefix line by itself measures so much: behind one of blanks it lacks its own
+abbrev pub measureWith : ℕ → List ℕ → List ℕ → ℕ
+measureWith whole prefix part =
+    cond (eqb (length (trimEnd part)) 0) (whole - (length prefix - length (trimEnd prefix))) (whole + length (trimEnd part) + 1)
+
+-- a prefix line with a message line, written with its end at the start of an output: its count and its measure
+pub record WritesLine (prefix part : List ℕ) (whole : ℕ) (before after : List ℕ) (r : Put) : Type 0 where
+  pub count : r .length ≡ length (ended (lineWith prefix part))
+  pub output : after ≡ over (ended (lineWith prefix part)) before
+  pub measure : r .measure ≡ measureWith whole prefix part
 
 -- and from `at` on
-pub record WritesLineAt (l : List ℕ) (at : ℕ) (before after : List ℕ) (r : Put) : Type 0 where
-  pub count : r .length ≡ length (ended l)
-  pub output : after ≡ take at before ++ (ended l ++ drop (at + length (ended l)) before)
-  pub measure : r .measure ≡ measureOf l
+pub record WritesLineAt (prefix part : List ℕ) (whole at : ℕ) (before after : List ℕ) (r : Put) : Type 0 where
+  pub count : r .length ≡ length (ended (lineWith prefix part))
+  pub output : after ≡ take at before ++ (ended (lineWith prefix part) ++ drop (at + length (ended (lineWith prefix part))) before)
+  pub measure : r .measure ≡ measureWith whole prefix part
 
 -- ---- lines with the lines of a message
 
@@ -66,6 +76,11 @@ pub record WritesLineAt (l : List ℕ) (at : ℕ) (before after : List ℕ) (r :
 abbrev pub drawn : List (List ℕ) → List ℕ → List (List ℕ)
 drawn [] m = []
 drawn (p ∷ ps) m = lineWith p (firstLine m) ∷ drawn ps (otherLines m)
+
+-- the measures of these lines, where each prefix line by itself measures so much
+abbrev pub measuresWith : ℕ → List (List ℕ) → List ℕ → List ℕ
+measuresWith whole [] m = []
+measuresWith whole (p ∷ ps) m = measureWith whole p (firstLine m) ∷ measuresWith whole ps (otherLines m)
 
 -- what is left of the message behind them
 abbrev pub leftOver : List (List ℕ) → List ℕ → List ℕ
@@ -95,10 +110,10 @@ abbrev pub planOf : LinkLinePlacement → Renderer → Row → ℕ → ℕ → P
 planOf p q r count height = record { placement = p; fixed = fixedLines q r; needed = max count height - fixedLines q r }
 
 -- lines written at the start of an output, and where the next message line starts
-pub record RowPuts (ps : List (List ℕ)) (message : List ℕ) (start : ℕ) (before after : List ℕ) (r : RowPut) : Type 0 where
+pub record RowPuts (whole : ℕ) (ps : List (List ℕ)) (message : List ℕ) (start : ℕ) (before after : List ℕ) (r : RowPut) : Type 0 where
   pub count : r .length ≡ length (textOf (drawn ps (drop start message)))
   pub output : after ≡ over (textOf (drawn ps (drop start message))) before
-  pub measure : r .measure ≡ lineMeasure (drawn ps (drop start message))
+  pub measure : r .measure ≡ greatest (measuresWith whole ps (drop start message))
   pub next : drop (r .next) message ≡ leftOver ps (drop start message)
   pub within : r .next ≤ length message
 
@@ -115,6 +130,14 @@ prefixes table d p = map (λ (l : Line). cellsText table (numbersIn table d l)) 
 -- all lines of a call
 abbrev pub allLinesOf : List ℕ → Drawing → Plan → List ℕ → TextView → Bool → List (List ℕ)
 allLinesOf table d p message t separator = beginRow finish separator t ++ drawn (prefixes table d p) message
+
+-- what the prefix lines of a drawing measure with the renderer's own glyphs
+abbrev pub wholeMeasure : Drawing → ℕ
+wholeMeasure d = prefixMeasure (d .renderer) (min (d .width) columnLimit)
+
+-- the line measure of a call, where they measure so much
+abbrev pub measureIn : List ℕ → Drawing → Plan → List ℕ → TextView → Bool → ℕ
+measureIn table d p message t separator = max (lineMeasure (beginRow finish separator t)) (greatest (measuresWith (wholeMeasure d) (prefixes table d p) message))
 
 -- how many bytes they have at most: of each line eight for each cell, the blank and the end, the message, and 514 above the row
 abbrev pub mostBytes : Plan → ℕ → ℕ → ℕ
@@ -144,7 +167,7 @@ pub record RowWith (table : List ℕ) (d : Drawing) (p : Plan) (message : List �
   pub kept : (r .refusal ≡ 0 → ⊥) → after ≡ before
   pub written : r .refusal ≡ 0
       → (r .length ≡ length (textOf (allLinesOf table d p message t separator)))
-      × (r .measure ≡ lineMeasure (allLinesOf table d p message t separator))
+      × (r .measure ≡ measureIn table d p message t separator)
       × (after ≡ over (textOf (allLinesOf table d p message t separator)) before)
       × (textViewOf (r .state) ≡ stateAfter table d p)
       × QueueFits (r .state)

@@ -1,3 +1,4 @@
 pub mod Text
+pub mod Queue
 pub mod Inner
 pub mod Promises

@@ -2,8 +2,9 @@
 // unwritten part of the output, and gives the count written.
 ghost use mathlib.Core.Path.{_≡_};
 ghost use mathlib.Core.List.{List, _∷_, _++_};
-ghost use Prim.Native.Nat.{ℕ, _+_, _≤_};
+ghost use Prim.Native.Nat.{ℕ, _+_, _*_, _≤_};
 ghost use lib.ListN.{length, take, drop, replicate};
+ghost use Rattle.column.specs.Columns.{columnLimit};
 ghost use Rattle.glyphs.specs.Tables.{cellsText, firstCells};
 ghost use Rattle.message.specs.Message.{messageLimit, trimEnd};
 ghost use Rattle.output.specs.Output.{ended, queueLimit};
@@ -16,8 +17,8 @@ use glyphs::write_cells;
 use glyphs::write_finished;
 use message::trimmed_length;
 use output::Put;
-use output::line_measure;
 use output::write_ended;
+use slices::difference;
 
 // How long a prefix line is: the count of its bytes, and that without the blanks at the end.
 pub struct Lengths {
@@ -55,31 +56,34 @@ fn write_part(out: &mut [u8], part: &[u8]) -> usize
     1 + write_ended(&mut out[1..], part)
 }
 
-// Writes a prefix line with a message line (`push_line_with_message`).
+// Writes a prefix line with a message line (`push_line_with_message`); the prefix line by itself measures `whole`.
 pub(crate) fn write_text_line(
     out: &mut [u8],
     table: &[u8],
     numbers: &[u8],
     cells: usize,
     part: &[u8],
+    whole: usize,
 ) -> Put
+    requires { ⌜ whole ≤ 3 * columnLimit ⌝ }
     requires { ⌜ length (ended (lineWith (cellsText (now table) (firstCells cells (now numbers))) (now part))) ≤ length (now out) ⌝ }
-    ensures { λ r. ⌜ WritesLine (lineWith (cellsText (now (table .entry)) (firstCells cells (now (numbers .entry)))) (now (part .entry))) (now (out .entry)) (now (out .exit)) r ⌝ }
+    ensures { λ r. ⌜ WritesLine (cellsText (now (table .entry)) (firstCells cells (now (numbers .entry)))) (now (part .entry)) whole (now (out .entry)) (now (out .exit)) r ⌝ }
 {
     let n = trimmed_length(part);
     if n == 0 {
-        let end = write_finished(out, table, numbers, cells);
+        let blanks = trailing_blanks(table, numbers, cells);
+        let end = write_finished(out, table, numbers, cells, blanks);
         out[end] = b'\n';
-        let measure = line_measure(&out[0..end]);
         return Put {
             length: end + 1,
-            measure,
+            measure: difference(whole, blanks),
         };
     }
     let at = write_cells(out, table, numbers, cells, n + 2);
-    let length = at + write_part(&mut out[at..], &part[0..n]);
-    let measure = line_measure(&out[0..length - 1]);
-    Put { length, measure }
+    Put {
+        length: at + write_part(&mut out[at..], &part[0..n]),
+        measure: whole + n + 1,
+    }
 }
 
 // Copies the first bytes of the output to a later place of it.
@@ -106,7 +110,8 @@ fn write_blanks(out: &mut [u8], count: usize)
     }
 }
 
-// Writes what stands behind a finished prefix line: the blanks that it lacks, a blank, the message line and the end.
+// Writes what stands behind a finished prefix line: the blanks that it lacks, a blank, the message line and the end; the end alone, 1 byte, where the
+// message line is of blanks.
 fn write_behind(out: &mut [u8], blanks: usize, part: &[u8]) -> usize
     requires { ⌜ length (behindFinished blanks (now part)) ≤ length (now out) ⌝ }
     ensures { λ r. ⌜ (r ≡ length (behindFinished blanks (now (part .entry)))) × (now (out .exit) ≡ over (behindFinished blanks (now (part .entry))) (now (out .entry))) ⌝ }
@@ -121,15 +126,29 @@ fn write_behind(out: &mut [u8], blanks: usize, part: &[u8]) -> usize
 }
 
 // Writes a prefix line once more, from `at` on, with the next message line: its first bytes are those of the output.
-pub(crate) fn repeat_text_line(out: &mut [u8], at: usize, lengths: Lengths, part: &[u8]) -> Put
-    requires { ⌜ (lengths .finished ≤ lengths .all) × (lengths .finished ≤ at) × (trimEnd (take (lengths .finished) (now out)) ≡ take (lengths .finished) (now out)) ⌝ }
+pub(crate) fn repeat_text_line(
+    out: &mut [u8],
+    at: usize,
+    lengths: Lengths,
+    part: &[u8],
+    whole: usize,
+) -> Put
+    requires { ⌜ (lengths .finished ≤ lengths .all) × (lengths .finished ≤ at) × (trimEnd (take (lengths .finished) (now out)) ≡ take (lengths .finished) (now out)) × (whole ≤ 3 * columnLimit) ⌝ }
     requires { ⌜ at + length (ended (lineWith (prefixAgain lengths (now out)) (now part))) ≤ length (now out) ⌝ }
-    ensures { λ r. ⌜ WritesLineAt (lineWith (prefixAgain lengths (now (out .entry))) (now (part .entry))) at (now (out .entry)) (now (out .exit)) r ⌝ }
+    ensures { λ r. ⌜ WritesLineAt (prefixAgain lengths (now (out .entry))) (now (part .entry)) whole at (now (out .entry)) (now (out .exit)) r ⌝ }
 {
     copy_first(out, lengths.finished, at);
     let from = at + lengths.finished;
-    let count = write_behind(&mut out[from..], lengths.all - lengths.finished, part);
-    let length = lengths.finished + count;
-    let measure = line_measure(&out[at..at + length - 1]);
-    Put { length, measure }
+    let lacked = lengths.all - lengths.finished;
+    let count = write_behind(&mut out[from..], lacked, part);
+    if count == 1 {
+        return Put {
+            length: lengths.finished + 1,
+            measure: difference(whole, lacked),
+        };
+    }
+    Put {
+        length: lengths.finished + count,
+        measure: whole + (count - lacked) - 1,
+    }
 }

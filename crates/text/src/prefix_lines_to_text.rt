@@ -1,17 +1,18 @@
 // A row's lines with its message, after prefix_lines_to_text.rs.
 ghost use mathlib.Core.Path.{_≡_};
-ghost use mathlib.Core.Bool.{cond};
+ghost use mathlib.Core.Bool.{true, cond};
 ghost use mathlib.Core.List.{List, [], _∷_};
-ghost use Prim.Native.Nat.{ℕ, _+_, _<_, _≤_};
+ghost use Prim.Native.Nat.{ℕ, _+_, _*_, _<_, _≤_, min};
 ghost use lib.Dec.{leb};
 ghost use lib.ListN.{length, drop, replicate};
 ghost use Rattle.column.specs.Columns.{columnLimit};
 ghost use Rattle.glyphs.specs.Tables.{numbersIn, cellsText, firstCells};
-ghost use Rattle.message.specs.Message.{messageLimit};
-ghost use Rattle.output.specs.Output.{queueLimit, textOf, lineMeasure, textViewOf};
+ghost use Rattle.message.specs.Message.{messageLimit, isWritable, allOf};
+ghost use Rattle.output.specs.Output.{queueLimit, textOf, greatest, textViewOf};
+ghost use Rattle.render.specs.Mark.{isMark};
 ghost use Rattle.shaper.specs.Shaper.{heightLimit};
 ghost use Rattle.slices.specs.Joins.{over};
-ghost use Rattle.text.specs.Inner.{Measured, Counts, allLinesOf, QueueFits, drawn as drawnLines, one, fixedLines, planOf, lineTimes, prefixes, mostBytes, waits, RowPuts, RowWith, RowTexts};
+ghost use Rattle.text.specs.Inner.{Measured, Counts, allLinesOf, QueueFits, drawn as drawnLines, one, fixedLines, planOf, lineTimes, prefixes, mostBytes, waits, prefixMeasure, measuresWith, wholeMeasure, RowPuts, RowWith, RowTexts};
 ghost use Rattle.text.specs.Text.{isBottom, times as timesOf};
 use crate::lines::Lengths;
 use crate::lines::lengths_of;
@@ -28,6 +29,7 @@ use glyphs::ascii_table;
 use glyphs::box_table;
 use glyphs::choose_cells;
 use glyphs::drawing_of;
+use glyphs::is_large;
 use glyphs::is_present;
 use glyphs::large_table;
 use glyphs::line_at;
@@ -45,6 +47,7 @@ use render::OUTPUT_SHORTER_THAN_LINES;
 use render::RowShape;
 use slices::difference;
 use slices::greater;
+use slices::lesser;
 
 // How a row's lines are repeated: where the link lines stand, how many lines the row has in any case, and how many are needed beyond them.
 pub struct Plan {
@@ -205,7 +208,19 @@ fn row_length(table: &[u8], drawing: Drawing, plan: Plan, message: &[u8]) -> usi
     length
 }
 
-// Writes a prefix line once or more often, each time with the next message line: the first by its glyphs, the others by the first one's bytes.
+// The measure of a prefix line of so many of a row's cells, at most 64: 2 for each, in large ASCII 3 for each but the first, which measures 2.
+fn prefix_measure(renderer: Renderer, width: usize) -> usize
+    ensures { λ r. ⌜ (r ≡ prefixMeasure renderer (min width columnLimit)) × (r ≤ 3 * columnLimit) ⌝ }
+{
+    let cells = lesser(width, COLUMN_LIMIT);
+    if is_large(renderer) {
+        return difference(3 * cells, 1);
+    }
+    2 * cells
+}
+
+// Writes a prefix line once or more often, each time with the next message line: the first by its glyphs, the others by the first one's bytes;
+// by itself it measures `whole`.
 fn write_repeated(
     out: &mut [u8],
     table: &[u8],
@@ -214,13 +229,21 @@ fn write_repeated(
     times: usize,
     message: &[u8],
     start: usize,
+    whole: usize,
 ) -> RowPut
-    requires { ⌜ (length (now message) ≤ messageLimit) × (start ≤ length (now message)) × (0 < times) × (times ≤ messageLimit) ⌝ }
+    requires { ⌜ (length (now message) ≤ messageLimit) × (start ≤ length (now message)) × (0 < times) × (times ≤ messageLimit) × (whole ≤ 3 * columnLimit) ⌝ }
     requires { ⌜ length (textOf (drawnLines (replicate times (cellsText (now table) (firstCells cells (now numbers)))) (drop start (now message)))) ≤ length (now out) ⌝ }
-    ensures { λ r. ⌜ RowPuts (replicate times (cellsText (now (table .entry)) (firstCells cells (now (numbers .entry))))) (now (message .entry)) start (now (out .entry)) (now (out .exit)) r ⌝ }
+    ensures { λ r. ⌜ RowPuts whole (replicate times (cellsText (now (table .entry)) (firstCells cells (now (numbers .entry))))) (now (message .entry)) start (now (out .entry)) (now (out .exit)) r ⌝ }
 {
     let first_end = line_end(message, start);
-    let first = write_text_line(out, table, numbers, cells, &message[start..first_end]);
+    let first = write_text_line(
+        out,
+        table,
+        numbers,
+        cells,
+        &message[start..first_end],
+        whole,
+    );
     let mut length = first.length;
     let mut measure = first.measure;
     let mut next = next_start(message, first_end);
@@ -235,7 +258,7 @@ fn write_repeated(
     let mut i: usize = 1;
     while i < times {
         let end = line_end(message, next);
-        let put = repeat_text_line(out, length, lengths, &message[next..end]);
+        let put = repeat_text_line(out, length, lengths, &message[next..end], whole);
         length += put.length;
         measure = greater(measure, put.measure);
         next = next_start(message, end);
@@ -253,11 +276,12 @@ fn write_row(out: &mut [u8], table: &[u8], drawing: Drawing, plan: Plan, message
     requires { ⌜ (length (now message) ≤ messageLimit) × (plan .needed ≤ messageLimit) ⌝ }
     requires { ⌜ length (textOf (drawnLines (prefixes (now table) drawing plan) (now message))) ≤ length (now out) ⌝ }
     ensures { λ r. ⌜ (r .length ≡ length (textOf (drawnLines (prefixes (now (table .entry)) drawing plan) (now (message .entry)))))
-        × (r .measure ≡ lineMeasure (drawnLines (prefixes (now (table .entry)) drawing plan) (now (message .entry))))
+        × (r .measure ≡ greatest (measuresWith (wholeMeasure drawing) (prefixes (now (table .entry)) drawing plan) (now (message .entry))))
         × (now (out .exit) ≡ over (textOf (drawnLines (prefixes (now (table .entry)) drawing plan) (now (message .entry)))) (now (out .entry))) ⌝ }
 {
     let renderer = drawing.renderer;
     let row = drawing.row;
+    let whole = prefix_measure(renderer, drawing.width);
     let mut numbers = [0u8; COLUMN_LIMIT];
     let mut length: usize = 0;
     let mut measure: usize = 0;
@@ -279,6 +303,7 @@ fn write_row(out: &mut [u8], table: &[u8], drawing: Drawing, plan: Plan, message
             times,
             message,
             next,
+            whole,
         );
         length += put.length;
         measure = greater(measure, put.measure);
@@ -423,6 +448,7 @@ pub(crate) fn write_row_text(
     state: TextState,
 ) -> RowText
     requires { ⌜ (shape .width ≤ columnLimit) × (length (now message) ≤ messageLimit) × (height ≤ heightLimit) ⌝ }
+    requires { ⌜ (isMark mark ≡ true) × (allOf isWritable (now message) ≡ true) ⌝ }
     ensures { λ r. ⌜ RowTexts (textViewOf state) renderer shape mark (now (message .entry)) height (now (out .entry)) (now (out .exit)) r ⌝ }
 {
     let drawing = drawing_of(shape, renderer, mark);

@@ -1,5 +1,6 @@
 //! States and shapes set by hand, also such as no call leads to.
 
+use super::pieces::EVERY_SORT;
 use super::Generator;
 use crate::calls;
 use crate::refusals;
@@ -131,11 +132,16 @@ impl Generator<'_> {
         }
     }
 
-    /// A text state with a queued line of any bytes and of any length up to some bytes beyond its array; blanks end it now and then.
+    /// A text state with a queued line of any bytes or of pieces, and of any length up to some bytes beyond its array; blanks end it now
+    /// and then.
     pub fn any_queued(&mut self) -> HandState {
         let length = self.random.from(0, calls::QUEUE as u64 + 3);
-        let from: Vec<_> = (0..=self.random.pick(&[0x7e, 0xff])).collect();
-        let mut bytes = self.characters(length, &from);
+        let mut bytes = if self.random.once_in(2) {
+            self.pieces(length as usize)
+        } else {
+            let from: Vec<_> = (0..=self.random.pick(&[0x7e, 0xff])).collect();
+            self.characters(length, &from)
+        };
         let blanks = self.random.pick(&[0, 0, 0, 1, 5, 100]).min(bytes.len());
         let end = bytes.len();
         bytes[end - blanks..].fill(b' ');
@@ -169,11 +175,30 @@ impl Generator<'_> {
         if self.random.once_in(8) {
             return self.long_queue();
         }
-        let mut line: String = (0..self.random.below(9))
-            .map(|_| self.random.pick(&QUEUE_PARTS))
-            .collect();
-        line.push_str(self.random.pick(&QUEUE_ENDS));
-        line.into_bytes()
+        let mut line = Vec::new();
+        for _ in 0..self.random.below(9) {
+            line.extend(self.part());
+        }
+        line.extend(self.end());
+        line
+    }
+
+    /// A part of a queued line.
+    fn part(&mut self) -> Vec<u8> {
+        if self.random.once_in(2) {
+            return self.piece(&EVERY_SORT);
+        }
+        self.random.pick(&QUEUE_PARTS).into()
+    }
+
+    /// The end of a queued line, now and then within a box character or a shift sequence.
+    fn end(&mut self) -> Vec<u8> {
+        let mut end = Vec::new();
+        if self.random.once_in(4) {
+            end.extend(self.begun());
+        }
+        end.extend_from_slice(self.random.pick(&QUEUE_ENDS).as_bytes());
+        end
     }
 
     /// A queued line about as long as its array, which ends in blanks or not.

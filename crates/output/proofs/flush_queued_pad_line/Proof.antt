@@ -1,18 +1,13 @@
 -- Writes the queued line, if there is one and it fits (`flush_queued_pad_line`).
 use native.Mathlib.Omega.{arith}
 use borrow.Author.Tests.{not-true, not-false}
-use Rattle.output.proofs.PutLaws.{queue-long, queue-none, queue-there}
+use Rattle.output.proofs.PutLaws.{queue-long, queue-none, queue-written}
 use borrow.Author.Needs.{needs}
 use Rattle.output.proofs.flush_queued_pad_line.Statement.{statement}
 use Rattle.output.proofs.flush_queued_pad_line.Tie as tie
 
-nothing-requires : tie.Need-nothing-requires
-nothing-requires c κs = search needs
-
 returns : tie.Need-returns
-returns c =
-    let at-if = c .before in
-    queue-none (at-if .before .before .before .args .state) _ _ (not-true _ (at-if .if1 .taken)) (c .nothing .ensures .0) (c .nothing .ensures .1)
+returns c = queue-none (c .before .before .before .args .state) _ (not-true _ (c .if1 .taken))
 
 queue-length-requires : tie.Need-queue-length-requires
 queue-length-requires c κs = search needs
@@ -43,13 +38,12 @@ returns-2 c =
     let at-if = at-queue .before .before in
     let start = at-if .before .before .before in
     let a = start .args in
-    queue-there (a .state) (queue-long (a .state .«queued_pad_line») _ (start .good .1 .0 .1 .1 .0 .1 .0 .1)) (at-queue .queue-length .result) (not-false _ (at-if .if1 .left)) (at-queue .queue-length .ensures) _ _ _ (at-push .push-line .ensures)
+    queue-written (a .state) (queue-long (a .state .«queued_pad_line») _ (start .good .1 .0 .1 .1 .0 .1 .0 .1)) (at-queue .queue-length .result) (not-false _ (at-if .if1 .left)) (at-queue .queue-length .ensures) _ _ _ (at-push .push-line .ensures)
 
 pub flush-queued-pad-line-spec : {M : Type 1} → statement M
 flush-queued-pad-line-spec =
     tie.close
     (tie.spec
-    nothing-requires
     returns
     queue-length-requires
     sub-push-line

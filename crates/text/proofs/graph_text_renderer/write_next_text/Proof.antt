@@ -63,8 +63,11 @@ write-row-text-requires : tie.Need-write-row-text-requires
 write-row-text-requires c κs =
     let h = c .before in
     let r = h .before .before .before .before in
-    let a = r .before .before .before .before .before .before .before .before .args in
-    (accepted-width (a .shaper) (a .node) (a .entries) (r .next-row-shape .result) (r .next-row-shape .ensures) (h .before .before .if4 .left), r .before .before .before .if2 .left, omega (arith, h .min-row-height .ensures))
+    let m = r .before .before .before .before .before in
+    let a = m .before .before .before .args in (
+      (accepted-width (a .shaper) (a .node) (a .entries) (r .next-row-shape .result) (r .next-row-shape .ensures) (h .before .before .if4 .left), r .before .before .before .if2 .left, omega (arith, h .min-row-height .ensures)),
+      (sym (m .is-mark .ensures) ∙ not-false _ (r .before .before .before .before .if1 .left), sym (r .before .before .are-writable .ensures) ∙ not-false _ (r .before .if3 .left)),
+    )
 
 refused-requires-5 : tie.Need-refused-requires-5
 refused-requires-5 c κs = search needs

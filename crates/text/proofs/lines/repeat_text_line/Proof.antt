@@ -1,126 +1,119 @@
 -- Writes a prefix line once more, from `at` on, with the next message line: its first bytes are those of the output.
-use Prim.Native.Nat.{_+_, _-_}
+use mathlib.Core.Path.{_≡_}
+use Prim.Native.Nat.{_+_, _-_, _≤_}
 use native.Mathlib.Omega.{arith}
+use lib.ListN.{length}
 use borrow.Author.Needs.{needs}
-use Rattle.slices.proofs.OverLaws.{part-room, part-length}
-use Rattle.text.proofs.TextLineLaws.{behind-some, again-room, again-done}
+use Rattle.slices.proofs.OverLaws.{part-room}
+use Rattle.message.specs.Message.{trimEnd}
+use Rattle.text.specs.Inner.{behindFinished}
+use Rattle.text.proofs.TextLineLaws.{again-room, more-there, again-none, again-some}
 use Rattle.text.proofs.lines.repeat_text_line.Statement.{statement}
 use Rattle.text.proofs.lines.repeat_text_line.Tie as tie
 
+-- the start, from behind the copied bytes; and those, from behind what stands behind them
+abbrev start : tie.After-copy-first → tie.Start
+start c = c .before .before .before .before
+
+abbrev copied : tie.After-write-behind → tie.After-copy-first
+copied c = c .before .before .before .before .before .before
+
+-- the whole line fits
+fits : (s : tie.Start) → s .args .at + (s .args .lengths .finished + length (behindFinished (s .args .lengths .all - s .args .lengths .finished) (s .args .part .now))) ≤ length (s .args .out .now)
+fits s =
+    let a = s .args in
+    again-room (a .lengths) (a .at) (a .part .now) (a .out .now) (s .pre .0 .1) (s .pre .0 .2) (s .pre .1)
+
 copy-first-requires : tie.Need-copy-first-requires
-copy-first-requires c κs =
-    let start = c .before .before .before in
-    let a = start .args in
-    let room = again-room (a .lengths) (a .at) (a .part .now) (a .out .now) (start .pre .0 .1) (start .pre .0 .2) (start .pre .1) in
-    (omega arith, omega (arith, room))
+copy-first-requires c κs = (omega arith, omega (arith, fits (c .before .before .before)))
 
 add-from : tie.Need-add-from
 add-from c = search needs
 
+sub-lacked : tie.Need-sub-lacked
+sub-lacked c = search needs
+
 sub-write-behind : tie.Need-sub-write-behind
 sub-write-behind c =
-    let at-copy-first = c .before .before .before in
-    let start = at-copy-first .before .before .before .before in
-    let a = start .args in
-    let room = again-room (a .lengths) (a .at) (a .part .now) (a .out .now) (start .pre .0 .1) (start .pre .0 .2) (start .pre .1) in
-    let f = at-copy-first .copy-first in
-    omega (arith, room, f .kept .0)
+    let f = c .before .before .before .before in
+    omega (arith, fits (start f), f .copy-first .kept .0)
 
 part-write-behind-start : tie.Need-part-write-behind-start
 part-write-behind-start c =
-    let at-copy-first = c .before .before .before in
-    let start = at-copy-first .before .before .before .before in
-    let a = start .args in
-    let room = again-room (a .lengths) (a .at) (a .part .now) (a .out .now) (start .pre .0 .1) (start .pre .0 .2) (start .pre .1) in
-    let f = at-copy-first .copy-first in
-    omega (arith, room, f .kept .0)
+    let f = c .before .before .before .before in
+    omega (arith, fits (start f), f .copy-first .kept .0)
 
 part-write-behind-end : tie.Need-part-write-behind-end
 part-write-behind-end c = search needs
 
-sub-write-behind-2 : tie.Need-sub-write-behind-2
-sub-write-behind-2 c = search needs
-
 write-behind-requires : tie.Need-write-behind-requires
 write-behind-requires c κs =
-    let at-copy-first = c .before .before .before .before .before in
-    let start = at-copy-first .before .before .before .before in
-    let a = start .args in
-    let room = again-room (a .lengths) (a .at) (a .part .now) (a .out .now) (start .pre .0 .1) (start .pre .0 .2) (start .pre .1) in
-    let f = at-copy-first .copy-first in
-    omega (arith, room, f .kept .0, part-room (f .last .0) (a .at + a .lengths .finished))
+    let f = c .before .before .before .before .before in
+    let a = start f .args in
+    omega (arith, fits (start f), f .copy-first .kept .0, part-room (f .copy-first .last .0) (a .at + a .lengths .finished))
 
-add-length : tie.Need-add-length
-add-length c =
-    let at-write-behind = c .before .before .before in
-    let start = at-write-behind .before .before .before .before .before .before .before .before .before .before in
-    let a = start .args in
-    let room = again-room (a .lengths) (a .at) (a .part .now) (a .out .now) (start .pre .0 .1) (start .pre .0 .2) (start .pre .1) in
-    let w = at-write-behind .write-behind in
-    omega (arith, room, w .ensures .0)
+add-t17 : tie.Need-add-t17
+add-t17 c = search needs
 
-add-line-measure : tie.Need-add-line-measure
-add-line-measure c =
-    let at-write-behind = c .before .before .before in
-    let start = at-write-behind .before .before .before .before .before .before .before .before .before .before in
-    let a = start .args in
-    let room = again-room (a .lengths) (a .at) (a .part .now) (a .out .now) (start .pre .0 .1) (start .pre .0 .2) (start .pre .1) in
-    let w = at-write-behind .write-behind in
-    omega (arith, room, w .ensures .0)
-
-sub-line-measure : tie.Need-sub-line-measure
-sub-line-measure c =
-    let at-write-behind = c .before .before .before in
-    let start = at-write-behind .before .before .before .before .before .before .before .before .before .before in
-    let a = start .args in
-    let some = behind-some (a .lengths .all - a .lengths .finished) (a .part .now) in
-    let w = at-write-behind .write-behind in
-    omega (arith, some, w .ensures .0)
-
-sub-line-measure-2 : tie.Need-sub-line-measure-2
-sub-line-measure-2 c =
-    let at-write-behind = c .before .before .before in
-    let start = at-write-behind .before .before .before .before .before .before .before .before .before .before in
-    let a = start .args in
-    let some = behind-some (a .lengths .all - a .lengths .finished) (a .part .now) in
-    let w = at-write-behind .write-behind in
-    omega (arith, some, w .ensures .0)
-
-part-line-measure-start : tie.Need-part-line-measure-start
-part-line-measure-start c =
-    let at-write-behind = c .before .before .before .before in
-    let start = at-write-behind .before .before .before .before .before .before .before .before .before .before in
-    let a = start .args in
-    let some = behind-some (a .lengths .all - a .lengths .finished) (a .part .now) in
-    let w = at-write-behind .write-behind in
-    omega (arith, some, w .ensures .0)
-
-part-line-measure-end : tie.Need-part-line-measure-end
-part-line-measure-end c =
-    let at-write-behind = c .before .before .before .before in
-    let at-copy-first = at-write-behind .before .before .before .before .before .before in
-    let start = at-copy-first .before .before .before .before in
-    let a = start .args in
-    let room = again-room (a .lengths) (a .at) (a .part .now) (a .out .now) (start .pre .0 .1) (start .pre .0 .2) (start .pre .1) in
-    let f = at-copy-first .copy-first in
-    let w = at-write-behind .write-behind in
-    omega (arith, room, w .ensures .0, f .kept .0, part-length (f .last .0) (w .last .0) (a .at + a .lengths .finished) (w .kept .0) (omega (arith, room, f .kept .0)))
-
-line-measure-requires : tie.Need-line-measure-requires
-line-measure-requires c κs = search needs
+difference-requires : tie.Need-difference-requires
+difference-requires c κs = search needs
 
 same-length : tie.Need-same-length
 same-length c = search needs
 
 returns : tie.Need-returns
 returns c =
-    let at-line-measure = c in
-    let at-write-behind = at-line-measure .before .before .before .before .before .before in
-    let at-copy-first = at-write-behind .before .before .before .before .before .before in
-    let start = at-copy-first .before .before .before .before in
-    let a = start .args in
-    let f = at-copy-first .copy-first in
-    again-done (a .lengths) (a .at) (a .part .now) (a .out .now) (start .pre .0 .1) (start .pre .0 .2) (start .pre .1) _ _ _ _ (f .kept .0) (f .ensures) (at-write-behind .write-behind .ensures) (at-line-measure .line-measure .ensures)
+    let t = c .before .before in
+    let w = t .before .before .before in
+    let f = copied w in
+    let s = start f in
+    let a = s .args in
+    again-none (a .lengths) (a .at) (a .part .now) (a .out .now) (s .pre .0 .1) (s .pre .0 .2) (s .pre .1) (a .whole) _ _ _ (f .copy-first .kept .0) (f .copy-first .ensures) (w .write-behind .ensures) (t .if1 .taken) _ (c .difference .ensures)
+
+-- where more than the end stands behind the copied bytes: how much
+more : (c : tie.After-struct-known4)
+    → let w = c .before .before .before .before in
+    let s = start (copied w) in
+    w .write-behind .result ≡ (s .args .lengths .all - s .args .lengths .finished) + (length (trimEnd (s .args .part .now)) + 2)
+more c =
+    let e = c .before in
+    let w = e .before .before .before in
+    let s = start (copied w) in
+    let a = s .args in
+    more-there (a .lengths) (a .at) (a .part .now) (a .out .now) (s .pre .0 .1) (s .pre .0 .2) (s .pre .1) (w .write-behind .result) (w .write-behind .ensures .0) (e .if1 .left)
+
+-- and the line fits
+line-fits : (c : tie.After-struct-known4)
+    → let w = c .before .before .before .before in
+    let s = start (copied w) in
+    s .args .at + (s .args .lengths .finished + w .write-behind .result) ≤ length (s .args .out .now)
+line-fits c =
+    let w = c .before .before .before .before in
+    omega (arith, fits (start (copied w)), w .write-behind .ensures .0)
+
+add-t13 : tie.Need-add-t13
+add-t13 c = omega (arith, line-fits c)
+
+sub-t19 : tie.Need-sub-t19
+sub-t19 c = omega (arith, more c)
+
+add-t20 : tie.Need-add-t20
+add-t20 c = omega (arith, line-fits c, start (copied (c .before .before .before .before)) .pre .0 .3)
+
+sub-t21 : tie.Need-sub-t21
+sub-t21 c = omega (arith, more c)
+
+same-length-2 : tie.Need-same-length-2
+same-length-2 c = search needs
+
+returns-2 : tie.Need-returns-2
+returns-2 c =
+    let e = c .before in
+    let w = e .before .before .before in
+    let f = copied w in
+    let s = start f in
+    let a = s .args in
+    again-some (a .lengths) (a .at) (a .part .now) (a .out .now) (s .pre .0 .1) (s .pre .0 .2) (s .pre .1) (a .whole) _ _ _ (f .copy-first .kept .0) (f .copy-first .ensures) (w .write-behind .ensures) (e .if1 .left)
 
 pub repeat-text-line-spec : {M : Type 1} → statement M
 repeat-text-line-spec =
@@ -128,17 +121,18 @@ repeat-text-line-spec =
     (tie.spec
     copy-first-requires
     add-from
+    sub-lacked
     sub-write-behind
     part-write-behind-start
     part-write-behind-end
-    sub-write-behind-2
     write-behind-requires
-    add-length
-    add-line-measure
-    sub-line-measure
-    sub-line-measure-2
-    part-line-measure-start
-    part-line-measure-end
-    line-measure-requires
+    add-t17
+    difference-requires
     same-length
-    returns)
+    returns
+    add-t13
+    sub-t19
+    add-t20
+    sub-t21
+    same-length-2
+    returns-2)

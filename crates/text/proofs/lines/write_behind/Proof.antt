@@ -28,7 +28,7 @@ returns c =
     let start = at-trimmed-length .before .before .before in
     let a = start .args in
     let n = at-trimmed-length .trimmed-length in
-    behind-none (a .blanks) (a .part .now) (a .out .now) _ (n .ensures .0) (start .pre) (at-if1 .if1 .taken)
+    behind-none (a .blanks) (a .part .now) _ (n .ensures .0) (a .out .now) (start .pre) (at-if1 .if1 .taken)
 
 write-blanks-requires : tie.Need-write-blanks-requires
 write-blanks-requires c κs =
@@ -37,7 +37,7 @@ write-blanks-requires c κs =
     let start = at-trimmed-length .before .before .before in
     let a = start .args in
     let n = at-trimmed-length .trimmed-length in
-    let room = behind-room (a .blanks) (a .part .now) (a .out .now) _ (n .ensures .0) (start .pre) (at-if1 .if1 .left) (n .ensures .1) in
+    let room = behind-room (a .blanks) (a .part .now) _ (n .ensures .0) (a .out .now) (start .pre) (at-if1 .if1 .left) (n .ensures .1) in
     omega (arith, room)
 
 sub-write-part : tie.Need-sub-write-part
@@ -48,7 +48,7 @@ sub-write-part c =
     let start = at-trimmed-length .before .before .before in
     let a = start .args in
     let n = at-trimmed-length .trimmed-length in
-    let room = behind-room (a .blanks) (a .part .now) (a .out .now) _ (n .ensures .0) (start .pre) (at-if1 .if1 .left) (n .ensures .1) in
+    let room = behind-room (a .blanks) (a .part .now) _ (n .ensures .0) (a .out .now) (start .pre) (at-if1 .if1 .left) (n .ensures .1) in
     let w = at-write-blanks .write-blanks in
     omega (arith, room, w .kept .0)
 
@@ -60,7 +60,7 @@ part-write-part-start c =
     let start = at-trimmed-length .before .before .before in
     let a = start .args in
     let n = at-trimmed-length .trimmed-length in
-    let room = behind-room (a .blanks) (a .part .now) (a .out .now) _ (n .ensures .0) (start .pre) (at-if1 .if1 .left) (n .ensures .1) in
+    let room = behind-room (a .blanks) (a .part .now) _ (n .ensures .0) (a .out .now) (start .pre) (at-if1 .if1 .left) (n .ensures .1) in
     let w = at-write-blanks .write-blanks in
     omega (arith, room, w .kept .0)
 
@@ -88,7 +88,7 @@ write-part-requires c κs =
     let start = at-trimmed-length .before .before .before in
     let a = start .args in
     let n = at-trimmed-length .trimmed-length in
-    let room = behind-room (a .blanks) (a .part .now) (a .out .now) _ (n .ensures .0) (start .pre) (at-if1 .if1 .left) (n .ensures .1) in
+    let room = behind-room (a .blanks) (a .part .now) _ (n .ensures .0) (a .out .now) (start .pre) (at-if1 .if1 .left) (n .ensures .1) in
     let w = at-write-blanks .write-blanks in
     omega (arith, room, w .kept .0, part-room (w .last .0) (a .blanks), length-take (n .result - 0) (a .part .now))
 
@@ -100,7 +100,7 @@ add-result c =
     let start = at-trimmed-length .before .before .before in
     let a = start .args in
     let n = at-trimmed-length .trimmed-length in
-    let room = behind-room (a .blanks) (a .part .now) (a .out .now) _ (n .ensures .0) (start .pre) (at-if1 .if1 .left) (n .ensures .1) in
+    let room = behind-room (a .blanks) (a .part .now) _ (n .ensures .0) (a .out .now) (start .pre) (at-if1 .if1 .left) (n .ensures .1) in
     omega (arith, room, at-write-part .write-part .ensures .0, length-take (n .result - 0) (a .part .now))
 
 same-length-2 : tie.Need-same-length-2
@@ -115,7 +115,7 @@ returns-2 c =
     let start = at-trimmed-length .before .before .before in
     let a = start .args in
     let n = at-trimmed-length .trimmed-length in
-    behind-done (a .blanks) (a .part .now) (a .out .now) _ (n .ensures .0) (start .pre) (at-if1 .if1 .left) (n .ensures .1) _ _ _ (at-write-blanks .write-blanks .ensures) (at-write-part .write-part .ensures)
+    behind-done (a .blanks) (a .part .now) _ (n .ensures .0) (a .out .now) (start .pre) (at-if1 .if1 .left) (n .ensures .1) _ _ _ (at-write-blanks .write-blanks .ensures) (at-write-part .write-part .ensures)
 
 pub write-behind-spec : {M : Type 1} → statement M
 write-behind-spec =

@@ -1,130 +1,105 @@
 -- Writes a prefix line with a message line (`push_line_with_message`).
-use Prim.Native.Nat.{_-_}
+use mathlib.Core.Path.{_≡_}
+use mathlib.Core.List.{List}
+use Prim.Native.Nat.{ℕ, _+_, _-_, _<_, _≤_}
 use native.Mathlib.Omega.{arith}
-use lib.ListN.{length-set, length-take}
+use lib.ListN.{length, length-take}
 use borrow.Author.Needs.{needs}
-use Rattle.slices.specs.Characters.{newline}
-use Rattle.slices.proofs.OverLaws.{part-room, part-length}
+use Rattle.slices.proofs.OverLaws.{part-room}
 use Rattle.message.proofs.MessageLaws.{trim-length}
 use Rattle.glyphs.specs.Tables.{cellsText, firstCells}
 use Rattle.text.proofs.TextLineLaws.{none-room, none-done, some-room, some-end, some-done}
 use Rattle.text.proofs.lines.write_text_line.Statement.{statement}
 use Rattle.text.proofs.lines.write_text_line.Tie as tie
 
+-- the start, from behind the length of the message line
+abbrev start : tie.After-trimmed-length → tie.Start
+start c = c .before .before .before .before .before
+
+-- the prefix line
+abbrev line : tie.Start → List ℕ
+line s = cellsText (s .args .table .now) (firstCells (s .args .cells) (s .args .numbers .now))
+
+-- ---- a message line of blanks
+-- its length, from behind the finished cells
+abbrev trimmed : tie.After-write-finished → tie.After-trimmed-length
+trimmed c = c .before .before .before .before
+
+-- the finished cells leave room for the end
+end-fits : (c : tie.After-write-finished) → c .write-finished .result < length (start (trimmed c) .args .out .now)
+end-fits c =
+    let s = start (trimmed c) in
+    let b = c .before .before in
+    none-room (line s) (s .args .part .now) (s .args .out .now) (s .args .whole) _ (trimmed c .trimmed-length .ensures .0) (s .pre .1) (b .before .if1 .taken) _ (b .trailing-blanks .ensures) _ _ (c .write-finished .ensures)
+
+-- ---- and one of more
+-- all cells fit with what stands behind them
+cells-fit : (c : tie.Else1) → length (line (start (c .before))) + (c .before .trimmed-length .result + 2) ≤ length (start (c .before) .args .out .now)
+cells-fit c =
+    let s = start (c .before) in
+    let n = c .before .trimmed-length in
+    some-room (line s) (s .args .part .now) (s .args .out .now) (s .args .whole) _ (n .ensures .0) (s .pre .1) (c .if1 .left) (n .ensures .1)
+
+-- where the branch began, from behind the cells
+abbrev more : tie.After-write-cells → tie.Else1
+more c = c .before .before
+
+-- where the cells end
+cells-end : (c : tie.After-write-cells) → c .write-cells .result ≡ length (line (start (more c .before)))
+cells-end c =
+    let s = start (more c .before) in
+    let n = more c .before .trimmed-length in
+    some-end (line s) (s .args .part .now) (s .args .out .now) (s .args .whole) _ (n .ensures .0) (s .pre .1) (more c .if1 .left) (n .ensures .1) _ _ (c .write-cells .ensures)
+
+-- the cells were written, from behind what stands behind them
+abbrev celled : tie.After-write-part → tie.After-write-cells
+celled c = c .before .before .before .before .before
+
 trimmed-length-requires : tie.Need-trimmed-length-requires
 trimmed-length-requires c κs = search needs
+
+trailing-blanks-requires : tie.Need-trailing-blanks-requires
+trailing-blanks-requires c κs = search needs
 
 write-finished-requires : tie.Need-write-finished-requires
 write-finished-requires c κs = search needs
 
 slice-write-out : tie.Need-slice-write-out
 slice-write-out c =
-    let at-write-finished = c .before .before in
-    let at-if1 = at-write-finished .before .before in
-    let at-trimmed-length = at-if1 .before in
-    let start = at-trimmed-length .before .before .before .before .before in
-    let a = start .args in
-    let xs = cellsText (a .table .now) (firstCells (a .cells) (a .numbers .now)) in
-    let n = at-trimmed-length .trimmed-length in
-    let w = at-write-finished .write-finished in
-    let room = none-room xs (a .part .now) (a .out .now) _ (n .ensures .0) (start .pre) (at-if1 .if1 .taken) _ _ (w .ensures) in
-    omega (arith, room, w .kept .0)
+    let f = c .before .before in
+    omega (arith, end-fits f, f .write-finished .kept .0)
 
-sub-line-measure : tie.Need-sub-line-measure
-sub-line-measure c = search needs
+add-t15 : tie.Need-add-t15
+add-t15 c = omega (arith, end-fits (c .before .before))
 
-part-line-measure-start : tie.Need-part-line-measure-start
-part-line-measure-start c = search needs
-
-part-line-measure-end : tie.Need-part-line-measure-end
-part-line-measure-end c =
-    let at-write-finished = c .before .before .before in
-    let at-if1 = at-write-finished .before .before in
-    let at-trimmed-length = at-if1 .before in
-    let start = at-trimmed-length .before .before .before .before .before in
-    let a = start .args in
-    let xs = cellsText (a .table .now) (firstCells (a .cells) (a .numbers .now)) in
-    let n = at-trimmed-length .trimmed-length in
-    let w = at-write-finished .write-finished in
-    let room = none-room xs (a .part .now) (a .out .now) _ (n .ensures .0) (start .pre) (at-if1 .if1 .taken) _ _ (w .ensures) in
-    omega (arith, room, w .kept .0, length-set (w .last .0) (w .result) newline)
-
-line-measure-requires : tie.Need-line-measure-requires
-line-measure-requires c κs = search needs
-
-add-t17 : tie.Need-add-t17
-add-t17 c =
-    let at-write-finished = c .before .before .before .before .before in
-    let at-if1 = at-write-finished .before .before in
-    let at-trimmed-length = at-if1 .before in
-    let start = at-trimmed-length .before .before .before .before .before in
-    let a = start .args in
-    let xs = cellsText (a .table .now) (firstCells (a .cells) (a .numbers .now)) in
-    let n = at-trimmed-length .trimmed-length in
-    let w = at-write-finished .write-finished in
-    let room = none-room xs (a .part .now) (a .out .now) _ (n .ensures .0) (start .pre) (at-if1 .if1 .taken) _ _ (w .ensures) in
-    omega (arith, room)
+difference-requires : tie.Need-difference-requires
+difference-requires c κs = search needs
 
 same-length : tie.Need-same-length
 same-length c = search needs
 
 returns : tie.Need-returns
 returns c =
-    let at-line-measure = c in
-    let at-write-finished = at-line-measure .before .before .before .before .before in
-    let at-if1 = at-write-finished .before .before in
-    let at-trimmed-length = at-if1 .before in
-    let start = at-trimmed-length .before .before .before .before .before in
-    let a = start .args in
-    let xs = cellsText (a .table .now) (firstCells (a .cells) (a .numbers .now)) in
-    let n = at-trimmed-length .trimmed-length in
-    let w = at-write-finished .write-finished in
-    none-done xs (a .part .now) (a .out .now) _ (n .ensures .0) (start .pre) (at-if1 .if1 .taken) _ _ (w .ensures) _ (at-line-measure .line-measure .ensures)
+    let f = c .before .before .before in
+    let b = f .before .before in
+    let s = start (trimmed f) in
+    none-done (line s) (s .args .part .now) (s .args .out .now) (s .args .whole) _ (trimmed f .trimmed-length .ensures .0) (s .pre .1) (b .before .if1 .taken) _ (b .trailing-blanks .ensures) _ _ (f .write-finished .ensures) _ (c .difference .ensures)
 
 add-write-cells : tie.Need-add-write-cells
-add-write-cells c =
-    let at-if1 = c .before in
-    let at-trimmed-length = at-if1 .before in
-    let start = at-trimmed-length .before .before .before .before .before in
-    let a = start .args in
-    let xs = cellsText (a .table .now) (firstCells (a .cells) (a .numbers .now)) in
-    let n = at-trimmed-length .trimmed-length in
-    let some = at-if1 .if1 .left in
-    let room = some-room xs (a .part .now) (a .out .now) _ (n .ensures .0) (start .pre) some (n .ensures .1) in
-    omega (arith, room)
+add-write-cells c = omega (arith, cells-fit (c .before))
 
 write-cells-requires : tie.Need-write-cells-requires
 write-cells-requires c κs = search needs
 
 sub-write-part : tie.Need-sub-write-part
 sub-write-part c =
-    let at-write-cells = c .before .before in
-    let at-if1 = at-write-cells .before .before in
-    let at-trimmed-length = at-if1 .before in
-    let start = at-trimmed-length .before .before .before .before .before in
-    let a = start .args in
-    let xs = cellsText (a .table .now) (firstCells (a .cells) (a .numbers .now)) in
-    let n = at-trimmed-length .trimmed-length in
-    let some = at-if1 .if1 .left in
-    let room = some-room xs (a .part .now) (a .out .now) _ (n .ensures .0) (start .pre) some (n .ensures .1) in
-    let w = at-write-cells .write-cells in
-    let end = some-end xs (a .part .now) (a .out .now) _ (n .ensures .0) (start .pre) some (n .ensures .1) _ _ (w .ensures) in
-    omega (arith, room, end, w .kept .0)
+    let w = c .before .before in
+    omega (arith, cells-fit (more w), cells-end w, w .write-cells .kept .0)
 
 part-write-part-start : tie.Need-part-write-part-start
 part-write-part-start c =
-    let at-write-cells = c .before .before in
-    let at-if1 = at-write-cells .before .before in
-    let at-trimmed-length = at-if1 .before in
-    let start = at-trimmed-length .before .before .before .before .before in
-    let a = start .args in
-    let xs = cellsText (a .table .now) (firstCells (a .cells) (a .numbers .now)) in
-    let n = at-trimmed-length .trimmed-length in
-    let some = at-if1 .if1 .left in
-    let room = some-room xs (a .part .now) (a .out .now) _ (n .ensures .0) (start .pre) some (n .ensures .1) in
-    let w = at-write-cells .write-cells in
-    let end = some-end xs (a .part .now) (a .out .now) _ (n .ensures .0) (start .pre) some (n .ensures .1) _ _ (w .ensures) in
-    omega (arith, room, end, w .kept .0)
+    let w = c .before .before in
+    omega (arith, cells-fit (more w), cells-end w, w .write-cells .kept .0)
 
 part-write-part-end : tie.Need-part-write-part-end
 part-write-part-end c = search needs
@@ -137,104 +112,53 @@ part-write-part-start-2 c = search needs
 
 part-write-part-end-2 : tie.Need-part-write-part-end-2
 part-write-part-end-2 c =
-    let at-trimmed-length = c .before .before .before .before .before .before in
-    let start = at-trimmed-length .before .before .before .before .before in
-    let a = start .args in
-    omega (arith, trim-length (a .part .now), at-trimmed-length .trimmed-length .ensures .0)
+    let t = c .before .before .before .before .before .before in
+    omega (arith, trim-length (start t .args .part .now), t .trimmed-length .ensures .0)
 
 write-part-requires : tie.Need-write-part-requires
 write-part-requires c κs =
-    let at-write-cells = c .before .before .before .before in
-    let at-if1 = at-write-cells .before .before in
-    let at-trimmed-length = at-if1 .before in
-    let start = at-trimmed-length .before .before .before .before .before in
-    let a = start .args in
-    let xs = cellsText (a .table .now) (firstCells (a .cells) (a .numbers .now)) in
-    let n = at-trimmed-length .trimmed-length in
-    let some = at-if1 .if1 .left in
-    let room = some-room xs (a .part .now) (a .out .now) _ (n .ensures .0) (start .pre) some (n .ensures .1) in
-    let w = at-write-cells .write-cells in
-    let end = some-end xs (a .part .now) (a .out .now) _ (n .ensures .0) (start .pre) some (n .ensures .1) _ _ (w .ensures) in
-    let short = length-take (n .result - 0) (a .part .now) in
-    omega (arith, room, end, short, w .kept .0, part-room (w .last .0) (w .result))
+    let w = c .before .before .before .before in
+    let t = more w .before in
+    omega (arith, cells-fit (more w), cells-end w, length-take (t .trimmed-length .result - 0) (start t .args .part .now), w .write-cells .kept .0, part-room (w .write-cells .last .0) (w .write-cells .result))
 
-add-length : tie.Need-add-length
-add-length c =
-    let at-write-part = c .before .before in
-    let at-write-cells = at-write-part .before .before .before .before .before in
-    let at-if1 = at-write-cells .before .before in
-    let at-trimmed-length = at-if1 .before in
-    let start = at-trimmed-length .before .before .before .before .before in
-    let a = start .args in
-    let xs = cellsText (a .table .now) (firstCells (a .cells) (a .numbers .now)) in
-    let n = at-trimmed-length .trimmed-length in
-    let some = at-if1 .if1 .left in
-    let room = some-room xs (a .part .now) (a .out .now) _ (n .ensures .0) (start .pre) some (n .ensures .1) in
-    let w = at-write-cells .write-cells in
-    let end = some-end xs (a .part .now) (a .out .now) _ (n .ensures .0) (start .pre) some (n .ensures .1) _ _ (w .ensures) in
-    let short = length-take (n .result - 0) (a .part .now) in
-    let p = at-write-part .write-part in
-    omega (arith, room, end, short, p .ensures .0)
+add-t28 : tie.Need-add-t28
+add-t28 c =
+    let p = c .before .before in
+    let w = celled p in
+    let t = more w .before in
+    omega (arith, cells-fit (more w), cells-end w, length-take (t .trimmed-length .result - 0) (start t .args .part .now), p .write-part .ensures .0)
 
-sub-line-measure-2 : tie.Need-sub-line-measure-2
-sub-line-measure-2 c = search needs
+add-t29 : tie.Need-add-t29
+add-t29 c =
+    let w = celled (c .before .before) in
+    omega (arith, cells-fit (more w), start (more w .before) .pre .0)
 
-sub-line-measure-3 : tie.Need-sub-line-measure-3
-sub-line-measure-3 c = search needs
-
-part-line-measure-start-2 : tie.Need-part-line-measure-start-2
-part-line-measure-start-2 c = search needs
-
-part-line-measure-end-2 : tie.Need-part-line-measure-end-2
-part-line-measure-end-2 c =
-    let at-write-part = c .before .before .before in
-    let at-write-cells = at-write-part .before .before .before .before .before in
-    let at-if1 = at-write-cells .before .before in
-    let at-trimmed-length = at-if1 .before in
-    let start = at-trimmed-length .before .before .before .before .before in
-    let a = start .args in
-    let xs = cellsText (a .table .now) (firstCells (a .cells) (a .numbers .now)) in
-    let n = at-trimmed-length .trimmed-length in
-    let some = at-if1 .if1 .left in
-    let room = some-room xs (a .part .now) (a .out .now) _ (n .ensures .0) (start .pre) some (n .ensures .1) in
-    let w = at-write-cells .write-cells in
-    let end = some-end xs (a .part .now) (a .out .now) _ (n .ensures .0) (start .pre) some (n .ensures .1) _ _ (w .ensures) in
-    let short = length-take (n .result - 0) (a .part .now) in
-    let p = at-write-part .write-part in
-    omega (arith, room, end, short, p .ensures .0, w .kept .0, part-length (w .last .0) (p .last .0) (w .result) (p .kept .0) (omega (arith, room, end, w .kept .0)))
-
-line-measure-requires-2 : tie.Need-line-measure-requires-2
-line-measure-requires-2 c κs = search needs
+add-t30 : tie.Need-add-t30
+add-t30 c =
+    let w = celled (c .before .before) in
+    omega (arith, cells-fit (more w), start (more w .before) .pre .0)
 
 same-length-2 : tie.Need-same-length-2
 same-length-2 c = search needs
 
 returns-2 : tie.Need-returns-2
 returns-2 c =
-    let at-line-measure2 = c in
-    let at-write-part = at-line-measure2 .before .before .before .before .before in
-    let at-write-cells = at-write-part .before .before .before .before .before in
-    let at-if1 = at-write-cells .before .before in
-    let at-trimmed-length = at-if1 .before in
-    let start = at-trimmed-length .before .before .before .before .before in
-    let a = start .args in
-    let xs = cellsText (a .table .now) (firstCells (a .cells) (a .numbers .now)) in
-    let n = at-trimmed-length .trimmed-length in
-    let w = at-write-cells .write-cells in
-    some-done xs (a .part .now) (a .out .now) _ (n .ensures .0) (start .pre) (at-if1 .if1 .left) (n .ensures .1) _ _ (w .ensures) _ _ _ (w .kept .0) (at-write-part .write-part .ensures) (at-line-measure2 .line-measure2 .ensures)
+    let p = c .before .before in
+    let w = celled p in
+    let s = start (more w .before) in
+    let n = more w .before .trimmed-length in
+    some-done (line s) (s .args .part .now) (s .args .out .now) (s .args .whole) _ (n .ensures .0) (s .pre .1) (more w .if1 .left) (n .ensures .1) _ _ (w .write-cells .ensures) _ _ (w .write-cells .kept .0) (p .write-part .ensures)
 
 pub write-text-line-spec : {M : Type 1} → statement M
 write-text-line-spec =
     tie.close
     (tie.spec
     trimmed-length-requires
+    trailing-blanks-requires
     write-finished-requires
     slice-write-out
-    sub-line-measure
-    part-line-measure-start
-    part-line-measure-end
-    line-measure-requires
-    add-t17
+    add-t15
+    difference-requires
     same-length
     returns
     add-write-cells
@@ -246,11 +170,8 @@ write-text-line-spec =
     part-write-part-start-2
     part-write-part-end-2
     write-part-requires
-    add-length
-    sub-line-measure-2
-    sub-line-measure-3
-    part-line-measure-start-2
-    part-line-measure-end-2
-    line-measure-requires-2
+    add-t28
+    add-t29
+    add-t30
     same-length-2
     returns-2)

@@ -11,13 +11,13 @@ use Rattle.text.proofs.prefix_lines_to_text.write_repeated.Statement.{s
 use Rattle.text.proofs.prefix_lines_to_text.write_repeated.Tie as tie
 
 abbrev Inv-loop : tie.InvT-loop
-Inv-loop out₀ table numbers cells times message start first-end length₀ measure₀ next₀ lengths i₀ out length measure next i =
+Inv-loop out₀ table numbers cells times message start whole first-end length₀ measure₀ next₀ lengths i₀ out length measure next i =
     (0 < i) × (i ≤ times)
-    × ((b : List ℕ) → Writing message start b (replicate 1 (cellsText table (firstCells cells numbers))) out₀ (record { length = length₀; measure = measure₀; next = next₀ })
-    → Writing message start b (replicate i (cellsText table (firstCells cells numbers))) out (record { length = length; measure = measure; next = next }))
+    × ((b : List ℕ) → Writing whole message start b (replicate 1 (cellsText table (firstCells cells numbers))) out₀ (record { length = length₀; measure = measure₀; next = next₀ })
+    → Writing whole message start b (replicate i (cellsText table (firstCells cells numbers))) out (record { length = length; measure = measure; next = next }))
 
 abbrev μ-loop : tie.MeasureT-loop
-μ-loop out₀ table numbers cells times message start first-end length₀ measure₀ next₀ lengths i₀ out length measure next i = times - i
+μ-loop out₀ table numbers cells times message start whole first-end length₀ measure₀ next₀ lengths i₀ out length measure next i = times - i
 
 -- where the first message line ended, from behind it; and the start
 abbrev first-end : tie.After-next-start Inv-loop μ-loop → tie.After-line-end Inv-loop μ-loop
@@ -36,20 +36,20 @@ first-within c = part-within (start c .args .message .now) (start c .args .start
 
 -- the first line was written
 first-done : (c : tie.After-next-start Inv-loop μ-loop)
-    → Writing (start (first-end c) .args .message .now) (start (first-end c) .args .start) (start (first-end c) .args .out .now) (replicate 1 (line (start (first-end c)))) (c .before .before .before .write-text-line .last .0)
+    → Writing (start (first-end c) .args .whole) (start (first-end c) .args .message .now) (start (first-end c) .args .start) (start (first-end c) .args .out .now) (replicate 1 (line (start (first-end c)))) (c .before .before .before .write-text-line .last .0)
     (record { length = c .before .before .before .write-text-line .result .length; measure = c .before .before .before .write-text-line .result .measure; next = c .next-start .result })
 first-done c =
     let e = first-end c in
     let a = start e .args in
     let w = c .before .before .before .write-text-line in
-    first-written (a .message .now) (a .start) (a .out .now) (line (start e)) (e .line-end .result) _ (w .result) _ (e .line-end .ensures) (w .ensures) (w .kept .0) refl refl (c .next-start .ensures)
+    first-written (a .whole) (a .message .now) (a .start) (a .out .now) (line (start e)) (e .line-end .result) _ (w .result) _ (e .line-end .ensures) (w .ensures) (w .kept .0) refl refl (c .next-start .ensures)
 
 -- so many lines were written
 abbrev behind-first : tie.In-loop Inv-loop μ-loop → tie.After-next-start Inv-loop μ-loop
 behind-first c = c .before .before .before .before
 
 so-far : (c : tie.In-loop Inv-loop μ-loop)
-    → Writing (start (first-end (behind-first c)) .args .message .now) (start (first-end (behind-first c)) .args .start) (start (first-end (behind-first c)) .args .out .now)
+    → Writing (start (first-end (behind-first c)) .args .whole) (start (first-end (behind-first c)) .args .message .now) (start (first-end (behind-first c)) .args .start) (start (first-end (behind-first c)) .args .out .now)
     (replicate (c .before .loop .i) (line (start (first-end (behind-first c))))) (c .before .loop .out)
     (record { length = c .before .loop .length; measure = c .before .loop .measure; next = c .before .loop .next })
 so-far c = c .before .loop .inv .2 (start (first-end (behind-first c)) .args .out .now) (first-done (behind-first c))
@@ -76,7 +76,7 @@ write-text-line-requires : tie.Need-write-text-line-requires Inv-loop μ-loop
 write-text-line-requires c κs =
     let e = c .before .before in
     let s = start e in
-    first-fits (s .args .message .now) (s .args .start) (s .args .out .now) (line s) (s .args .times) (e .line-end .result) (s .pre .1) (s .pre .0 .2) (e .line-end .ensures)
+    (s .pre .0 .4, first-fits (s .args .whole) (s .args .message .now) (s .args .start) (s .args .out .now) (line s) (s .args .times) (e .line-end .result) (s .pre .1) (s .pre .0 .2) (e .line-end .ensures))
 
 next-start-requires : tie.Need-next-start-requires Inv-loop μ-loop
 next-start-requires c κs = search needs
@@ -114,7 +114,8 @@ repeat-text-line-requires c κs =
     let l = i .before .loop in
     let m = i .before .before .lengths-of in
     let s = start (first-end (behind-first i)) in
-    again-asked (s .args .message .now) (s .args .start) (s .args .out .now) (line s) (m .result) (m .ensures) (l .i) (l .out) _ (so-far i) (s .args .times) (s .pre .1) (l .inv .0) (i .loop-test .taken) (e .line-end2 .result) (e .line-end2 .ensures)
+    let (x, y) = again-asked (s .args .whole) (s .args .message .now) (s .args .start) (s .args .out .now) (line s) (m .result) (m .ensures) (l .i) (l .out) _ (so-far i) (s .args .times) (s .pre .1) (l .inv .0) (i .loop-test .taken) (e .line-end2 .result) (e .line-end2 .ensures) in
+    ((x .0, x .1, x .2, s .pre .0 .4), y)
 
 add-length : tie.Need-add-length Inv-loop μ-loop
 add-length c =
@@ -128,7 +129,7 @@ add-length c =
       arith,
       so-far i .same,
       w .repeat-text-line .ensures .count,
-      again-asked (s .args .message .now) (s .args .start) (s .args .out .now) (line s) (m .result) (m .ensures) (l .i) (l .out) _ (so-far i) (s .args .times) (s .pre .1) (l .inv .0) (i .loop-test .taken) (e .line-end2 .result) (e .line-end2 .ensures) .1,
+      again-asked (s .args .whole) (s .args .message .now) (s .args .start) (s .args .out .now) (line s) (m .result) (m .ensures) (l .i) (l .out) _ (so-far i) (s .args .times) (s .pre .1) (l .inv .0) (i .loop-test .taken) (e .line-end2 .result) (e .line-end2 .ensures) .1,
     )
 
 greater-requires : tie.Need-greater-requires Inv-loop μ-loop
@@ -155,7 +156,7 @@ loop-again c =
     let s = start (first-end (behind-first i)) in (
       omega arith,
       omega (arith, i .loop-test .taken),
-      λ b g. again-written (s .args .message .now) (s .args .start) b (line s) (m .result) (m .ensures) (l .i) (l .out) _ (l .inv .2 b g) (l .inv .0) (e .line-end2 .result) _ (w .repeat-text-line .result) _
+      λ b g. again-written (s .args .whole) (s .args .message .now) (s .args .start) b (line s) (m .result) (m .ensures) (l .i) (l .out) _ (l .inv .2 b g) (l .inv .0) (e .line-end2 .result) _ (w .repeat-text-line .result) _
           (e .line-end2 .ensures) (w .repeat-text-line .kept .0) (w .repeat-text-line .ensures) refl (c .before .greater .ensures) (c .next-start2 .ensures),
     )
 

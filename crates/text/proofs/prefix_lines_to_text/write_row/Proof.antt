@@ -22,17 +22,20 @@ abbrev size : List ℕ → ℕ
 size = length
 
 abbrev Inv-loop : tie.InvT-loop
-Inv-loop out₀ table drawing plan message renderer row numbers₀ length₀ measure₀ next₀ k₀ out numbers length measure next k =
+Inv-loop out₀ table drawing plan message renderer row whole numbers₀ length₀ measure₀ next₀ k₀ out numbers length measure next k =
     (k ≤ 9) × (size numbers ≡ columnLimit)
-    × Writing message 0 out₀ (map (λ (l : Line). cellsText table (numbersIn table drawing l)) (spread (lineTimes plan renderer row) (take k allLines))) out
+    × Writing whole message 0 out₀ (map (λ (l : Line). cellsText table (numbersIn table drawing l)) (spread (lineTimes plan renderer row) (take k allLines))) out
     (record { length = length; measure = measure; next = next })
 
 abbrev μ-loop : tie.MeasureT-loop
-μ-loop out₀ table drawing plan message renderer row numbers₀ length₀ measure₀ next₀ k₀ out numbers length measure next k = 9 - k
+μ-loop out₀ table drawing plan message renderer row whole numbers₀ length₀ measure₀ next₀ k₀ out numbers length measure next k = 9 - k
 
 -- the start, and the loop
+abbrev measured : tie.In-loop Inv-loop μ-loop → tie.After-prefix-measure Inv-loop μ-loop
+measured c = c .before .before
+
 abbrev start : tie.In-loop Inv-loop μ-loop → tie.Start Inv-loop μ-loop
-start c = c .before .before .before .before .before .before
+start c = measured c .before .before .before .before .before
 
 abbrev timed : tie.After-choose-cells Inv-loop μ-loop → tie.After-times Inv-loop μ-loop
 timed c = c .before .before .before
@@ -67,12 +70,15 @@ fits c =
     let l = i .before .loop in
     let s = start i in
     next-fits (prefixOf s) (timesOf s) allLines (l .k) PostAncestry (omega (arith, i .loop-test .taken)) (e .line-at .result) (t .times .result) (e .line-at .ensures) (t .times .ensures) (chosen c) (drew c)
-    (s .args .message .now) (s .args .out .now) (l .out) _ (l .inv .2) (s .pre .1)
+    (s .args .message .now) (s .args .out .now) (l .out) _ (measured i .prefix-measure .result) (l .inv .2) (s .pre .1)
 
 loop-holds : tie.Need-loop-holds Inv-loop μ-loop
 loop-holds c =
-    let a = c .before .before .before .before .args in
-    (search needs, refl, record { same = refl; rows = row-none (a .message .now) 0 (a .out .now) zero-le })
+    let a = c .before .before .before .before .before .args in
+    (search needs, refl, record { same = refl; rows = row-none (c .prefix-measure .result) (a .message .now) 0 (a .out .now) zero-le })
+
+prefix-measure-requires : tie.Need-prefix-measure-requires Inv-loop μ-loop
+prefix-measure-requires c κs = search needs
 
 line-at-requires : tie.Need-line-at-requires Inv-loop μ-loop
 line-at-requires c κs = search needs
@@ -123,7 +129,7 @@ write-repeated-requires c κs =
     let t = timed d in
     let i = looped d in
     let s = start i in (
-      (s .pre .0 .0, i .before .loop .inv .2 .rows .within, some (t .times .result) (d .before .before .if1 .left), rw (t .times .ensures) (plan-short (s .args .plan) (s .args .drawing .renderer) (s .args .drawing .row) (s .pre .0 .1) (t .before .line-at .result))),
+      (s .pre .0 .0, i .before .loop .inv .2 .rows .within, some (t .times .result) (d .before .before .if1 .left), rw (t .times .ensures) (plan-short (s .args .plan) (s .args .drawing .renderer) (s .args .drawing .row) (s .pre .0 .1) (t .before .line-at .result)), measured i .prefix-measure .ensures .1),
       fits d .1,
     )
 
@@ -158,7 +164,7 @@ loop-again-2 c =
       omega (arith, h),
       d .choose-cells .kept .0 ∙ l .inv .1,
       next-written (prefixOf s) (timesOf s) allLines (l .k) PostAncestry (omega (arith, h)) (e .line-at .result) (t .times .result) (e .line-at .ensures) (t .times .ensures) (chosen d) (drew d)
-          (s .args .message .now) (s .args .out .now) (l .out) _ (l .inv .2) (s .pre .1) _ (w .write-repeated .result) _ (w .write-repeated .ensures) (w .write-repeated .kept .0) refl (c .greater .ensures) refl,
+          (s .args .message .now) (s .args .out .now) (l .out) _ (measured i .prefix-measure .result) (l .inv .2) (s .pre .1) _ (w .write-repeated .result) _ (w .write-repeated .ensures) (w .write-repeated .kept .0) refl (c .greater .ensures) refl,
     )
 
 same-length : tie.Need-same-length Inv-loop μ-loop
@@ -168,7 +174,8 @@ returns : tie.Need-returns Inv-loop μ-loop
 returns c =
     let l = c .before .loop in
     let e : l .k ≡ 9 = omega (arith, l .inv .0) in
-    let r = rw e at (l .inv .2 .rows) in
+    let m = c .before .before .prefix-measure in
+    let r = rw (e, m .ensures .0) at (l .inv .2 .rows) in
     (r .count, r .measure, r .output)
 
 pub write-row-spec : {M : Type 1} → statement M
@@ -177,6 +184,7 @@ write-row-spec =
     (tie.spec
     Inv-loop
     μ-loop
+    prefix-measure-requires
     loop-holds
     line-at-requires
     times-requires

@@ -7,6 +7,7 @@ use Rattle.column.specs.Columns.{columnLimit}
 use Rattle.glyphs.specs.Cells.{glyphsOf}
 use Rattle.glyphs.specs.Tables.{Tables}
 use Rattle.glyphs.proofs.BoxLaws.{box-tables, ascii-tables, large-tables}
+use Rattle.glyphs.proofs.ChoiceLaws.{cells-long}
 use Rattle.message.specs.Message.{messageLimit}
 use Rattle.output.specs.Output.{textViewOf}
 use Rattle.text.specs.declared.prefix_lines_to_text.RowText.{RowText}
@@ -34,16 +35,17 @@ small c =
     let s = start c in
     let a = s .args in
     plan-small (a .state) (a .renderer) (a .shape) (a .mark) (a .message .now) (a .height) (drawn c .drawing-of .result) (drawn c .drawing-of .ensures) (counted c .line-count .result) (counted c .line-count .ensures)
-    (c .plan-of .result) (c .plan-of .ensures) (s .pre .0) (s .pre .1) (s .pre .2)
+    (c .plan-of .result) (c .plan-of .ensures) (s .pre .0 .0) (s .pre .0 .1) (s .pre .0 .2)
 
 -- and what it gives, for the renderer's own table
 done : (c : tie.After-plan-of) (table : List ℕ) → Tables table (glyphsOf (start c .args .renderer)) (start c .args .renderer) (start c .args .mark) → (before after : List ℕ) (r : RowText)
     → RowWith table (drawn c .drawing-of .result) (c .plan-of .result) (start c .args .message .now) (textViewOf (start c .args .state)) (start c .args .shape .«separator_line») before after r
     → RowTexts (textViewOf (start c .args .state)) (start c .args .renderer) (start c .args .shape) (start c .args .mark) (start c .args .message .now) (start c .args .height) before after r
 done c table holds before after r w =
-    let a = start c .args in
+    let s = start c in
+    let a = s .args in
     texts (a .state) (a .renderer) (a .shape) (a .mark) (a .message .now) (a .height) (drawn c .drawing-of .result) (drawn c .drawing-of .ensures) (counted c .line-count .result) (counted c .line-count .ensures)
-    (c .plan-of .result) (c .plan-of .ensures) table holds before after r w
+    (c .plan-of .result) (c .plan-of .ensures) table holds (s .pre .1 .0) (cells-long (a .shape .cells) (s .good .1 .0 .1 .1 .1 .1 .1 .1 .1 .1 .1 .1 .1 .1 .0 .1 .0 .1)) (s .pre .1 .1) before after r w
 
 drawing-of-requires : tie.Need-drawing-of-requires
 drawing-of-requires c κs = search needs
