@@ -4,7 +4,6 @@ use std::fmt::Debug;
 
 use crate::calls::Previewed;
 use crate::calls::Shape;
-use crate::calls::Shaper;
 use crate::calls::TextState;
 use crate::codes;
 use crate::column::Column;
@@ -12,6 +11,8 @@ use crate::machine::Answer;
 use crate::machine::Machine;
 use crate::machine::Output;
 use crate::measure::measure;
+use crate::origins::Origins;
+use crate::origins::Started;
 use crate::records::Record;
 use crate::render::Ancestor;
 use crate::render::LinkLine;
@@ -32,22 +33,23 @@ fn lines(machine: &Machine, answer: &Answer, out: &mut Vec<u8>) {
         Answer::List(number) => line(out, &format!("list {number}")),
         Answer::New(number) => {
             line(out, &format!("new {number}"));
-            shaper(out, &machine.shaper);
+            shaper(out, machine);
         }
         Answer::Reserve(number) => {
             line(out, &format!("reserve {number}"));
-            shaper(out, &machine.shaper);
+            shaper(out, machine);
         }
         Answer::Row(number) => {
             line(out, &format!("row {number}"));
             shape(out, &machine.shape);
-            shaper(out, &machine.shaper);
+            shaper(out, machine);
         }
-        Answer::Preview(number, previewed) => {
-            preview(out, *number, previewed);
-            shaper(out, &machine.shaper);
+        Answer::Preview(number, previewed, origins) => {
+            preview(out, *number, previewed, origins);
+            shaper(out, machine);
         }
         Answer::Width(number, width) => line(out, &format!("width {number} {width}")),
+        Answer::Origin(started) => line(out, &format!("origin {}", origin(*started))),
         Answer::Renderer(number, written) => {
             line(out, &format!("renderer {number} {}", written.length));
             output(out, written);
@@ -56,16 +58,16 @@ fn lines(machine: &Machine, answer: &Answer, out: &mut Vec<u8>) {
             let (length, measure) = (written.length, measure(lines));
             line(out, &format!("text {number} {length} {measure}"));
             output(out, written);
-            shaper(out, &machine.shaper);
+            shaper(out, machine);
             state(out, &machine.state);
         }
         Answer::Record(number, outcome) => record(out, *number, outcome.clone()),
-        Answer::Shaper => shaper(out, &machine.shaper),
+        Answer::Shaper => shaper(out, machine),
         Answer::State => state(out, &machine.state),
         Answer::Shape => shape(out, &machine.shape),
         Answer::Repeated(times) => {
             line(out, &format!("repeated {times}"));
-            shaper(out, &machine.shaper);
+            shaper(out, machine);
             state(out, &machine.state);
         }
     }
@@ -85,18 +87,19 @@ fn line_with_bytes(out: &mut Vec<u8>, head: &str, bytes: &[u8]) {
 }
 
 /// A preview's line.
-fn preview(out: &mut Vec<u8>, number: u8, previewed: &Previewed) {
+fn preview(out: &mut Vec<u8>, number: u8, previewed: &Previewed, origins: &Origins) {
     let text = format!(
         "preview {number} {} {}{}",
         previewed.column,
         previewed.width,
-        columns(&previewed.columns),
+        columns(&previewed.columns, origins),
     );
     line(out, &text);
 }
 
 /// The shaper's line.
-fn shaper(out: &mut Vec<u8>, shaper: &Shaper) {
+fn shaper(out: &mut Vec<u8>, machine: &Machine) {
+    let shaper = &machine.shaper;
     let options = shaper.options();
     let style = options.graph_row_shape_style;
     let previous = shaper.previous_node_column();
@@ -107,24 +110,42 @@ fn shaper(out: &mut Vec<u8>, shaper: &Shaper) {
         style.dash_style,
         style.link_line_placement,
         previous.map_or("none".to_owned(), |column| column.to_string()),
-        columns(shaper.columns()),
+        columns(shaper.columns(), &machine.origins),
     );
     line(out, &text);
 }
 
 /// The live columns, as a line ends in them.
-fn columns(live: &[Column<u32>]) -> String {
-    format!(" columns={}", joined(live, column))
+fn columns(live: &[Column<u32>], origins: &Origins) -> String {
+    let live: Vec<_> = live.iter().zip(origins.carried()).collect();
+    format!(" columns={}", joined(&live, column))
+}
+
+/// A column by name, and the node that it carries.
+fn column((held, carried): &(&Column<u32>, &Option<u32>)) -> String {
+    match carried {
+        Some(node) => format!("{} by {node}", held_by_name(held)),
+        None => held_by_name(held),
+    }
 }
 
 /// A column by name.
-fn column(column: &Column<u32>) -> String {
+fn held_by_name(column: &Column<u32>) -> String {
     match column {
         Column::Empty => "Empty".to_owned(),
         Column::Blocked => "Blocked".to_owned(),
         Column::Reserved(id) => format!("Reserved {id}"),
         Column::Ancestor(id) => format!("Ancestor {id}"),
         Column::Parent(id) => format!("Parent {id}"),
+    }
+}
+
+/// What a query answers.
+fn origin(started: Started) -> String {
+    match started {
+        Started::NotWaiting => "not waiting".to_owned(),
+        Started::Unnamed => "none".to_owned(),
+        Started::By(node) => node.to_string(),
     }
 }
 

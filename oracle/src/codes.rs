@@ -96,6 +96,11 @@ pub fn held(column: &Column<u32>) -> Option<u32> {
     }
 }
 
+/// Whether a column's id was named by a row: it is Ancestor or Parent.
+pub fn is_named(column: &Column<u32>) -> bool {
+    matches!(column, Column::Ancestor(_) | Column::Parent(_))
+}
+
 /// The node cell; a code above 3 is blank.
 pub fn node_cell(code: u8) -> NodeLine {
     match code {

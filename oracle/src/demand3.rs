@@ -9,7 +9,6 @@ mod lines;
 mod ours;
 mod printed;
 mod seen;
-mod waiting;
 
 use std::collections::BTreeSet;
 use std::time::Duration;

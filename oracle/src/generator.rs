@@ -9,6 +9,7 @@ mod histories;
 mod long_lists;
 mod pieces;
 mod previews;
+mod queries;
 mod record_calls;
 mod values;
 
@@ -31,13 +32,13 @@ pub use histories::history;
 /// What the commands of a list are mostly about, as weights of the letters in `ALL_LETTERS`.
 type Theme = [u64; ALL_LETTERS.len()];
 
-/// The themes, each with its own weight. The letters are N R W B V P T D S Q H X.
+/// The themes, each with its own weight. The letters are N R W B V O P T D S Q H X.
 const THEMES: [(u64, Theme); 5] = [
-    (40, [3, 8, 24, 8, 8, 10, 8, 0, 2, 1, 1, 2]),
-    (30, [1, 4, 2, 2, 1, 1, 30, 0, 1, 2, 0, 1]),
-    (10, [0, 0, 1, 0, 0, 12, 0, 0, 0, 0, 10, 0]),
-    (5, [0, 0, 0, 0, 0, 0, 1, 20, 0, 0, 0, 0]),
-    (15, [1, 1, 1, 1, 1, 1, 1, 1, 1, 1, 1, 1]),
+    (40, [3, 8, 24, 8, 8, 4, 10, 8, 0, 2, 1, 1, 2]),
+    (30, [1, 4, 2, 2, 1, 2, 1, 30, 0, 1, 2, 0, 1]),
+    (10, [0, 0, 1, 0, 0, 0, 12, 0, 0, 0, 0, 10, 0]),
+    (5, [0, 0, 0, 0, 0, 0, 0, 1, 20, 0, 0, 0, 0]),
+    (15, [1, 1, 1, 1, 1, 1, 1, 1, 1, 1, 1, 1, 1]),
 ];
 
 /// How seldom a list of thousands of calls comes, and at which places of so many lists.
@@ -46,7 +47,7 @@ const LONG_HISTORY: u32 = 150;
 const NEARLY_FULL: u32 = 400;
 
 /// The theme of a list of lone rows, between which separators stand.
-const LONE_THEME: Theme = [1, 1, 2, 2, 1, 1, 24, 0, 1, 6, 0, 1];
+const LONE_THEME: Theme = [1, 1, 2, 2, 1, 1, 1, 24, 0, 1, 6, 0, 1];
 
 /// A list in the making, with the machine that it has led to.
 struct Generator<'a> {
@@ -203,22 +204,26 @@ impl<'a> Generator<'a> {
         self.random.from(least, most)
     }
 
-    /// Adds a shaper set by hand, and now and then a preview on it.
+    /// Adds a shaper set by hand, and now and then a preview or a query on it.
     fn set_shaper(&mut self, shaper: HandShaper) {
-        self.push(Command::Shaper(shaper));
+        let command = Command::Shaper(shaper);
+        self.push(command.clone());
         if self.random.once_in(4) {
             self.preview_and_follow();
+        } else {
+            self.ask_behind(&command);
         }
     }
 
-    /// Adds one command of the list's theme; a call of the same row may follow a preview.
+    /// Adds one command of the list's theme; a call of the same row may follow a preview, a query any other.
     fn command(&mut self) {
         let letter = ALL_LETTERS[self.random.weighted(&self.theme)];
         if letter == b'B' {
             return self.preview_and_follow();
         }
         let command = self.command_of(letter);
-        self.push(command);
+        self.push(command.clone());
+        self.ask_behind(&command);
     }
 
     /// A command with this letter.
@@ -229,6 +234,7 @@ impl<'a> Generator<'a> {
             b'W' => Command::Row(self.row()),
             b'B' => Command::Preview(self.preview()),
             b'V' => Command::Width(self.width()),
+            b'O' => Command::Origin(self.id()),
             b'P' => Command::Renderer(self.drawing_of_shape()),
             b'T' => Command::Text(self.text()),
             b'D' => Command::Record(self.record()),

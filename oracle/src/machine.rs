@@ -11,6 +11,8 @@ use crate::codes;
 use crate::kinds::Kinds;
 use crate::measure;
 use crate::measure::Line;
+use crate::origins::Origins;
+use crate::origins::Started;
 use crate::records;
 use crate::records::Record;
 use crate::refusals;
@@ -34,8 +36,9 @@ pub enum Answer {
     New(u8),
     Reserve(u8),
     Row(u8),
-    Preview(u8, Previewed),
+    Preview(u8, Previewed, Origins),
     Width(u8, u64),
+    Origin(Started),
     Renderer(u8, Output),
     Text(u8, Output, Vec<Line>),
     Record(u8, Option<Record>),
@@ -52,7 +55,7 @@ impl Answer {
             Answer::New(number)
             | Answer::Reserve(number)
             | Answer::Row(number)
-            | Answer::Preview(number, _)
+            | Answer::Preview(number, ..)
             | Answer::Width(number, _)
             | Answer::Renderer(number, _)
             | Answer::Text(number, ..)
@@ -159,6 +162,7 @@ impl Counts {
 /// The states that commands work on.
 pub struct Machine {
     pub shaper: Shaper,
+    pub origins: Origins,
     pub state: TextState,
     pub shape: Shape,
     pub counts: Counts,
@@ -170,6 +174,7 @@ impl Machine {
     pub fn new(built: &Letters) -> Self {
         Self {
             shaper: calls::blank_shaper(),
+            origins: Origins::fresh(),
             state: TextState::default(),
             shape: calls::blank_shape(),
             counts: Counts::default(),
@@ -199,11 +204,13 @@ impl Machine {
             Command::Row(row) => self.row(row),
             Command::Preview(row) => self.preview(row),
             Command::Width(width) => self.width(width),
+            Command::Origin(id) => self.origin(*id),
             Command::Renderer(drawing) => self.renderer(drawing),
             Command::Text(text) => self.text(text),
             Command::Record(left) => record(left),
             Command::Shaper(hand) => {
                 self.shaper = calls::hand_shaper(hand);
+                self.origins = Origins::by_hand(self.shaper.columns(), &hand.slots);
                 Answer::Shaper
             }
             Command::State(hand) => {
@@ -222,6 +229,7 @@ impl Machine {
     /// Begins a list.
     fn list(&mut self, number: u32) -> Answer {
         self.shaper = calls::blank_shaper();
+        self.origins = Origins::fresh();
         self.state = TextState::default();
         self.shape = calls::blank_shape();
         Answer::List(number)
@@ -231,6 +239,7 @@ impl Machine {
     fn new_shaper(&mut self, options: &Options) -> Answer {
         let (number, shaper) = split(calls::new_shaper(options));
         self.shaper = shaper.unwrap_or_else(calls::blank_shaper);
+        self.origins = Origins::fresh();
         Answer::New(number)
     }
 
@@ -238,6 +247,7 @@ impl Machine {
     fn reserve(&mut self, id: u32) -> Answer {
         let (number, after) = split(calls::reserve(&self.shaper, id));
         if let Some(shaper) = after {
+            self.origins.reserve(id, shaper.columns());
             self.shaper = shaper;
         }
         Answer::Reserve(number)
@@ -248,7 +258,7 @@ impl Machine {
         let (number, after) = split(calls::row(&self.shaper, row));
         self.shape = match after {
             Some((shaper, shape)) => {
-                self.shaper = shaper;
+                self.drawn(row, shaper);
                 shape
             }
             None => calls::blank_shape(),
@@ -256,11 +266,24 @@ impl Machine {
         Answer::Row(number)
     }
 
+    /// Takes the shaper that an accepted row leaves.
+    fn drawn(&mut self, row: &Row, shaper: Shaper) {
+        let node_column = shaper.previous_node_column().expect("the node's column");
+        self.origins
+            .row(self.shaper.columns(), shaper.columns(), node_column, row);
+        self.shaper = shaper;
+    }
+
     /// Preview; it changes nothing.
     fn preview(&self, row: &Row) -> Answer {
         let (number, previewed) = split(calls::preview(&self.shaper, row));
+        let mut origins = self.origins.clone();
+        if let Some(previewed) = &previewed {
+            let before = self.shaper.columns();
+            origins.row(before, &previewed.columns, previewed.column, row);
+        }
         let previewed = previewed.unwrap_or_else(|| calls::blank_preview(&self.shaper));
-        Answer::Preview(number, previewed)
+        Answer::Preview(number, previewed, origins)
     }
 
     /// Width.
@@ -269,6 +292,11 @@ impl Machine {
         let entries = codes::flag(width.has_entries).then_some(width.entries.as_slice());
         let (number, width) = split(calls::width(&self.shaper, node, entries));
         Answer::Width(number, width.unwrap_or(0))
+    }
+
+    /// Query; it changes nothing.
+    fn origin(&self, id: u32) -> Answer {
+        Answer::Origin(self.origins.started(self.shaper.columns(), id))
     }
 
     /// Renderer.
@@ -289,7 +317,7 @@ impl Machine {
         }));
         let mut lines = Vec::new();
         if let Some(written) = after {
-            self.shaper = written.shaper;
+            self.drawn(&text.row, written.shaper);
             self.state = written.state;
             lines = measure::lines(&written.text, &written.line_lengths);
         }

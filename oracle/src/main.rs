@@ -14,7 +14,9 @@ mod machine;
 mod marked;
 mod measure;
 mod measured_lines;
+mod origins;
 mod programs;
+mod queried_lines;
 mod random;
 mod record_bytes;
 mod record_compare;
@@ -27,6 +29,7 @@ mod replay;
 mod shrink;
 mod stream;
 mod vectors;
+mod waiting;
 mod watch;
 
 // The crate's files name these at the crate's root.

@@ -18,11 +18,11 @@ use crate::stream::Slot;
 use crate::stream::Width;
 
 /// The code of an Anonymous entry.
-const ANONYMOUS: u8 = 0;
+pub const ANONYMOUS: u8 = 0;
 /// The code of an Ancestor entry.
-const ANCESTOR: u8 = 1;
+pub const ANCESTOR: u8 = 1;
 /// The code of a Parent entry.
-const PARENT: u8 = 2;
+pub const PARENT: u8 = 2;
 /// The code of a Parent column.
 const PARENT_COLUMN: u8 = 4;
 
@@ -158,7 +158,7 @@ fn entries(pairs: &[(u8, u32)]) -> Vec<Entry> {
 }
 
 /// The row with this node and these entries.
-fn row_of(node: u32, pairs: &[(u8, u32)]) -> Row {
+pub fn row_of(node: u32, pairs: &[(u8, u32)]) -> Row {
     Row {
         node,
         entries: entries(pairs),
@@ -166,7 +166,7 @@ fn row_of(node: u32, pairs: &[(u8, u32)]) -> Row {
 }
 
 /// A row call.
-fn row(node: u32, pairs: &[(u8, u32)]) -> Command {
+pub fn row(node: u32, pairs: &[(u8, u32)]) -> Command {
     Command::Row(row_of(node, pairs))
 }
 
@@ -196,7 +196,7 @@ fn record(node: u32, pairs: &[(u8, u32)]) -> Command {
     Command::Record(record_bytes::whole(node, b'o', count, &entries(pairs), &[]))
 }
 
-/// A shaper of height 1 whose column 0 holds this id as Parent.
+/// A shaper of height 1 whose column 0 holds this id as Parent, named by the row of node 5.
 fn holds_parent(id: u32) -> Command {
     Command::Shaper(HandShaper {
         count: 1,
@@ -207,6 +207,7 @@ fn holds_parent(id: u32) -> Command {
         slots: vec![Slot {
             kind: PARENT_COLUMN,
             id,
+            origin: 5,
         }],
         ..HandShaper::default()
     })
@@ -239,6 +240,17 @@ pub fn format_list(number: u32) -> Vec<u8> {
                 0, 3, 4, 8,
             ],
         ),
+        (
+            b'S',
+            &[
+                2, 0, 0, 0, 0, 0, 0, 0, 0, 0, 0, 0, 0, 0, 0, 0, 0, 1, 0, 0, 0, 0, 0, 0, 0, 0, 0, 0,
+                2, 4, 8, 0, 0, 0, 3, 9, 0, 0, 0, 6, 1, 0, 0, 5,
+            ],
+        ),
+        (b'O', &[8]),
+        (b'O', &[9, 0, 0, 0, 77]),
+        (b'O', &[]),
+        (b'X', &[2, 0, 0, 0, b'O', 1, 0, 8, b'O', 4, 0, 9]),
         (b'B', &[1, 0, 0, 0, 2, 0, 2]),
         (b'W', &[1, 0, 0, 0, 2, 0, 2]),
         (b'W', &[8, 0, 0, 0, 33]),

@@ -1,7 +1,7 @@
 //! The call stream of docs/REPLAY.md. Each command's fields are walked in one place, in the order of its payload; reading, writing, showing and shrinking are walks.
 
 /// All letters but `L`, which is always known.
-pub const ALL_LETTERS: &[u8] = b"NRWBVPTDSQHX";
+pub const ALL_LETTERS: &[u8] = b"NRWBVOPTDSQHX";
 
 /// The command letters that are built.
 #[derive(Clone, Debug)]
@@ -97,11 +97,12 @@ impl Fields for Entry {
     }
 }
 
-/// A column: the code of its kind, and its id.
+/// A column: the code of its kind, its id, and its origin, which stands behind all slots.
 #[derive(Clone, Debug, Default)]
 pub struct Slot {
     pub kind: u8,
     pub id: u32,
+    pub origin: u32,
 }
 
 impl Fields for Slot {
@@ -222,6 +223,9 @@ impl Fields for HandShaper {
         walk.u64("previous", &mut self.previous);
         self.options.walk(walk);
         walk.list("slots", 1, &mut self.slots);
+        for slot in &mut self.slots {
+            walk.u32("origin", &mut slot.origin);
+        }
     }
 }
 
@@ -322,6 +326,7 @@ pub enum Command {
     Row(Row),
     Preview(Row),
     Width(Width),
+    Origin(u32),
     Renderer(Drawing),
     Text(Text),
     Record(Vec<u8>),
@@ -342,6 +347,7 @@ impl Command {
             Command::Row(_) => b'W',
             Command::Preview(_) => b'B',
             Command::Width(_) => b'V',
+            Command::Origin(_) => b'O',
             Command::Renderer(_) => b'P',
             Command::Text(_) => b'T',
             Command::Record(_) => b'D',
@@ -372,6 +378,7 @@ impl Command {
             b'W' => Command::Row(Row::default()),
             b'B' => Command::Preview(Row::default()),
             b'V' => Command::Width(Width::default()),
+            b'O' => Command::Origin(0),
             b'P' => Command::Renderer(Drawing::default()),
             b'T' => Command::Text(Text::default()),
             b'D' => Command::Record(Vec::new()),
@@ -388,7 +395,7 @@ impl Command {
         match self {
             Command::List(number) => walk.u32("number", number),
             Command::New(options) => options.walk(walk),
-            Command::Reserve(id) => walk.u32("id", id),
+            Command::Reserve(id) | Command::Origin(id) => walk.u32("id", id),
             Command::Row(row) | Command::Preview(row) => row.walk(walk),
             Command::Width(width) => width.walk(walk),
             Command::Renderer(drawing) => drawing.walk(walk),

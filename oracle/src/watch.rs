@@ -1,5 +1,6 @@
 //! Tells which kinds of input the calls of a list are, from each call, the states before it and its answer.
 
+mod origins;
 mod previews;
 mod queued_lines;
 mod record_calls;
@@ -22,6 +23,7 @@ use crate::stream::encode;
 use crate::stream::Command;
 use crate::stream::Repeat;
 use crate::stream::Row;
+use origins::Origins;
 use previews::Previews;
 
 /// A list with more calls is long.
@@ -58,6 +60,7 @@ struct List {
     line: Vec<u8>,
     lengths: Option<Lengths>,
     previews: Previews,
+    origins: Origins,
 }
 
 /// A call that was made with each output length from 0 on: its bytes with length 0, the next length, and what it wrote in the last one.
@@ -81,6 +84,7 @@ impl Watch {
             _ => {}
         }
         self.columns(machine, command);
+        self.list.origins.before(machine, command);
         self.near(machine, command);
         if let Some(kind) = broken_kind(command) {
             self.kinds.add_pairs(kind, &broken(machine, command));
@@ -114,6 +118,9 @@ impl Watch {
             _ => {}
         }
         self.list.previews.watch(&mut self.kinds, command, answer);
+        self.list
+            .origins
+            .after(&mut self.kinds, machine, command, answer);
         self.lengths(command, answer);
     }
 
@@ -203,9 +210,13 @@ impl Watch {
         }
     }
 
-    /// A quiet repeat: whether record calls and previews are in it.
+    /// A quiet repeat: whether record calls, previews and queries are in it.
     fn repeat(&mut self, repeat: &Repeat) {
-        for (letter, kind) in [(b'D', Kind::RecordRepeated), (b'B', Kind::PreviewRepeated)] {
+        for (letter, kind) in [
+            (b'D', Kind::RecordRepeated),
+            (b'B', Kind::PreviewRepeated),
+            (b'O', Kind::QueryRepeated),
+        ] {
             let has_letter = |command: &Command| command.letter() == letter;
             if repeat.times > 0 && repeat.commands.iter().any(has_letter) {
                 self.kinds.add(kind, 0);
@@ -275,7 +286,7 @@ fn without_length(command: &Command) -> Vec<u8> {
 /// The ids that a call names.
 fn ids(command: &Command) -> Vec<u32> {
     let node = match command {
-        Command::Reserve(id) => Some(*id),
+        Command::Reserve(id) | Command::Origin(id) => Some(*id),
         Command::Row(row) | Command::Preview(row) => Some(row.node),
         Command::Text(text) => Some(text.row.node),
         Command::Width(width) => Some(width.node),

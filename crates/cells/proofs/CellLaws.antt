@@ -2,7 +2,7 @@
 use Prim.Native.Nat.{ℕ, zero, suc, _+_, _-_, _≤_, _<_}
 use mathlib.Core.Path.{_≡_, refl, ap, ap₂, _∙_, sym}
 use mathlib.Core.Bool.{Bool, true, false, cond, not, _&&_}
-use mathlib.Core.List.{List, [], _∷_, _++_, append-assoc}
+use mathlib.Core.List.{List, [], _∷_, _++_, append-assoc, append-nil}
 use native.Mathlib.Numerals.{add-one}
 use native.Mathlib.Omega.{arith}
 use lib.Dec.{eqb}
@@ -167,6 +167,9 @@ module _ {A : Type 0} (f : ℕ → A) (blank : A) where
 
   pub cells-at : (n : ℕ) (r : List A) (j : ℕ) → j < n → getD (cellsFrom f 0 n ++ r) j blank ≡ f j
   cells-at n r j h = cells-from 0 n r j h ∙ ap f (omega arith)
+
+  pub cells-inside : (n j : ℕ) → j < n → getD (cellsFrom f 0 n) j blank ≡ f j
+  cells-inside n j h = ap (λ (l : List A). getD l j blank) (sym (append-nil (cellsFrom f 0 n))) ∙ cells-at n [] j h
 
   pub cells-past : (i n m j : ℕ) → n ≤ j → getD (cellsFrom f i n ++ replicate m blank) j blank ≡ blank
   cells-past i zero zero j h = refl

@@ -1,23 +1,24 @@
 -- Laws of the definitions in specs/Columns.antt, worded for the loops over an array of slots.
 use Prim.Native.Nat.{ℕ, zero, suc, _+_, _-_, _≤_, _<_, min, max}
 use mathlib.Core.Path.{_≡_, refl, ap, _∙_, sym}
-use mathlib.Core.Bool.{Bool, true, false, not, _&&_}
+use mathlib.Core.Bool.{Bool, true, false, cond, not, _&&_}
 use mathlib.Core.List.{List, [], _∷_, _++_}
 use native.Mathlib.Nat.{not-suc-le-zero}
 use native.Mathlib.Numerals.{add-one}
 use native.Mathlib.Omega.{arith}
-use lib.ListN.{length, getD, drop, set, replicate, length-set, drop-of-length-le, length-replicate, getD-replicate, List·getD-eq-default}
+use lib.ListN.{length, getD, take, drop, set, replicate, length-set, drop-of-length-le, length-replicate, getD-replicate, List·getD-eq-default}
 use lib.Dec.{ltb, eqb}
-use lib.Seq.{drop-cons, lt-length-set, set-out, getD-set-same, getD-set-other}
+use lib.Seq.{drop-cons, take-suc, take-suc-set, getD-set-same, getD-set-other}
 use borrow.Author.Tests.{ltb-true, ltb-false, eqb-true, eqb-false}
 use Rattle.column.specs.declared.Column.{Column}
 use Rattle.column.specs.declared.Column.the-variants.{Empty, Blocked, Reserved, Ancestor, Parent}
 use Rattle.column.specs.declared.Slot.{Slot}
 use Rattle.column.specs.declared.Found.{Found}
 use Rattle.column.specs.declared.Found.the-variants.{At, Nothing}
-use Rattle.column.specs.Columns.{columnLimit, isEmpty, next, first, findEmpty, vacant, keep, trim, at, put, live, emptySlot, SpareEmpty}
+use Rattle.column.specs.Columns.{columnLimit, isEmpty, next, first, findEmpty, vacant, keep, trim, at, put, live, isNamed, counted, carried, origins, originAt, emptySlot}
+use Rattle.slices.specs.Lists.{putWith}
 use Rattle.slices.proofs.Places.{put-inside, put-end}
-use Rattle.slices.proofs.Front.{length-front, front-getD, front-set, front-suc, front-clamp}
+use Rattle.slices.proofs.Front.{length-front, front-getD, front-suc, front-past, front-put}
 
 abbrev pub columnOf : Slot → Column
 columnOf s = s .column
@@ -64,6 +65,22 @@ module _ (n : ℕ) (l : List Slot) (i : ℕ) where
   pub live-past : min n (length l) ≤ i → length (live n l) ≤ i
   live-past h = rw length-front h
 
+-- what a live column carries is what its slot does, past the count nothing
+module _ (n : ℕ) (l : List Slot) (i : ℕ) where
+  pub origins-at : i < n → i < length l → originAt (origins n l) i ≡ carried (getD l i emptySlot)
+  origins-at = front-getD carried n l i emptySlot 0
+
+  pub origins-past : min n (length l) ≤ i → originAt (origins n l) i ≡ 0
+  origins-past = front-past carried n l i 0
+
+-- an origin is read once
+pub counted-twice : (c : Column) (o : ℕ) → counted c (counted c o) ≡ counted c o
+counted-twice c o = go (isNamed c)
+  where
+    go : (b : Bool) → cond b (cond b o 0) 0 ≡ cond b o 0
+    go true = refl
+    go false = refl
+
 -- an Empty column but one: that one is read as Blocked
 module _ (cs : List Column) (skip i : ℕ) where
   other : (b : Bool) → eqb i skip ≡ b → i < length cs → isEmpty (at (set cs skip Blocked) i) ≡ (isEmpty (at cs i) && not b)
@@ -93,31 +110,25 @@ module _ (n : ℕ) (l : List Slot) (i : ℕ) where
   vacant-last e h = rw (e, length-front columnOf n l) h
 
 -- ---- an array of Empty slots that is filled
--- a loop that copies each column in turn from r
-copy-next : (l r : List Slot) (i : ℕ) (s : Slot) → i < length l → i < length r → s .column ≡ (getD r i emptySlot) .column → live i l ≡ live i r → live (i + 1) (set l i s) ≡ live (i + 1) r
-copy-next l r i s h k e q =
-    let o : length (live i l) ≤ i = rw length-front (omega arith) in
-    rw (add-one i, front-suc columnOf i (set l i s) emptySlot (lt-length-set l i s h), getD-set-same l i s emptySlot h, front-set columnOf i l i s, set-out (live i l) i (s .column) o, front-suc columnOf i r emptySlot k, e, q)
-
--- slots of which the first i are filled, and the others Empty
+-- slots of which the first i are those of r, and the others Empty
 pub record Filled (r : List Slot) (i : ℕ) (l : List Slot) : Type 0 where
   pub long : length l ≡ columnLimit
-  pub same : live i l ≡ live i r
-  pub spare : SpareEmpty i l
+  pub same : take i l ≡ take i r
+  pub spare : (j : ℕ) → i ≤ j → getD l j emptySlot ≡ emptySlot
 
 pub filled-start : (r l : List Slot) → l ≡ replicate columnLimit emptySlot → Filled r 0 l
 filled-start r l e = rw e (record { long = length-replicate columnLimit emptySlot; same = refl; spare = λ j h. go j (ltb j columnLimit) refl })
   where
-    go : (j : ℕ) (b : Bool) → ltb j columnLimit ≡ b → (getD (replicate columnLimit emptySlot) j emptySlot) .column ≡ Empty
-    go j true q = rw (getD-replicate columnLimit j emptySlot emptySlot (ltb-true _ _ q))
-    go j false q = rw (List·getD-eq-default (replicate columnLimit emptySlot) emptySlot {n = j} (rw (length-replicate columnLimit emptySlot) (ltb-false _ _ q)))
+    go : (j : ℕ) (b : Bool) → ltb j columnLimit ≡ b → getD (replicate columnLimit emptySlot) j emptySlot ≡ emptySlot
+    go j true q = getD-replicate columnLimit j emptySlot emptySlot (ltb-true _ _ q)
+    go j false q = List·getD-eq-default (replicate columnLimit emptySlot) emptySlot {n = j} (rw (length-replicate columnLimit emptySlot) (ltb-false _ _ q))
 
-pub filled-next : (r l : List Slot) (i : ℕ) (s : Slot) → i < columnLimit → i < length r → s .column ≡ (getD r i emptySlot) .column → Filled r i l → Filled r (i + 1) (set l i s)
+pub filled-next : (r l : List Slot) (i : ℕ) (s : Slot) → i < columnLimit → i < length r → s ≡ getD r i emptySlot → Filled r i l → Filled r (i + 1) (set l i s)
 filled-next r l i s h k e f =
     record {
       long = length-set l i s ∙ f .long;
-      same = copy-next l r i s (rw (f .long) h) k e (f .same);
-      spare = λ j g. ap (λ (x : Slot). x .column) (getD-set-other l i j s emptySlot (λ z. omega arith)) ∙ f .spare j (omega arith);
+      same = rw (add-one i, take-suc-set l i s (rw (f .long) h), take-suc r i emptySlot k, f .same, e);
+      spare = λ j g. getD-set-other l i j s emptySlot (λ z. omega arith) ∙ f .spare j (omega arith);
     }
 
 -- ---- trimming
@@ -188,25 +199,10 @@ put-set = put-inside Empty
 pub put-last : (cs : List Column) (c : Column) → put cs (length cs) c ≡ cs ++ (c ∷ [])
 put-last = put-end Empty
 
+-- a slot stored at i, and the count with it
 module _ (count i m : ℕ) (l : List Slot) (s : Slot) (k : i < length l) (h : i ≤ length (live count l)) (e : m ≡ min (max count (i + 1)) (length l)) where
-  below : i < length (live count l) → live m (set l i s) ≡ put (live count l) i (s .column)
-  below g =
-      let q : m ≡ min count (length l) = omega (arith, length-front columnOf count l) in
-      rw (front-set columnOf m l i s, front-clamp columnOf m count l q, put-set (live count l) i (s .column) g)
-
-  behind : length (live count l) ≤ i → live m (set l i s) ≡ put (live count l) i (s .column)
-  behind g =
-      let q : i ≡ min count (length l) = omega (arith, length-front columnOf count l) in
-      let n : m ≡ suc i = omega arith in
-      let o : length (live i l) ≤ i = rw length-front (omega arith) in
-      let d : i ≡ length (live count l) = omega arith in
-      rw (n, front-suc columnOf i (set l i s) emptySlot (lt-length-set l i s k), getD-set-same l i s emptySlot k, front-set columnOf i l i s, set-out (live i l) i (s .column) o)
-      (rw (front-clamp columnOf i count l q) (sym (put-last (live count l) (s .column)) ∙ ap (λ (x : ℕ). put (live count l) x (s .column)) (sym d)))
-
-  pick : (b : Bool) → ltb i (length (live count l)) ≡ b → live m (set l i s) ≡ put (live count l) i (s .column)
-  pick true q = below (ltb-true _ _ q)
-  pick false q = behind (ltb-false _ _ q)
-
-  -- a slot stored at i, and the count with it
   pub live-put : live m (set l i s) ≡ put (live count l) i (s .column)
-  live-put = pick (ltb i (length (live count l))) refl
+  live-put = front-put columnOf Empty emptySlot count i m l s k h e
+
+  pub origins-put : origins m (set l i s) ≡ putWith 0 (origins count l) i (carried s)
+  origins-put = front-put carried 0 emptySlot count i m l s k (rw (length-front carried count l) (omega (arith, length-front columnOf count l))) e

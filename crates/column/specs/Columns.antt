@@ -12,6 +12,8 @@ use Rattle.column.specs.declared.Column.the-variants.{Empty, Blocked, Re
 use Rattle.column.specs.declared.Slot.{Slot}
 use Rattle.column.specs.declared.Found.{Found}
 use Rattle.column.specs.declared.Found.the-variants.{At, Nothing}
+use Rattle.column.specs.declared.Started.{Started}
+use Rattle.column.specs.declared.Started.the-variants.{NotWaiting, Unnamed, By}
 
 -- "64 columns" (01, the table's row for reserving)
 abbrev pub columnLimit : ℕ
@@ -73,6 +75,14 @@ isParent Blocked = false
 isParent (Reserved n) = false
 isParent (Ancestor n) = false
 isParent (Parent n) = true
+
+-- whether a column's id was named: it is Ancestor or Parent
+abbrev pub isNamed : Column → Bool
+isNamed Empty = false
+isNamed Blocked = false
+isNamed (Reserved n) = false
+isNamed (Ancestor n) = true
+isNamed (Parent n) = true
 
 -- "Merging replaces only by a higher rank." (01, point 1)
 abbrev pub merge : Column → Column → Column
@@ -147,18 +157,52 @@ put cs i c = putWith Empty cs i c
 abbrev pub live : ℕ → List Slot → List Column
 live n slots = map (λ (s : Slot). s .column) (take n slots)
 
+-- ---- who started a line (02, R-3)
+
+-- "carries the node in whose accepted row its id was first named .., or a mark for none if only reserved" (02, R-3): the kind Reserved is that mark
+abbrev pub startedBy : Column → ℕ → Started
+startedBy Empty o = NotWaiting
+startedBy Blocked o = NotWaiting
+startedBy (Reserved n) o = Unnamed
+startedBy (Ancestor n) o = By o
+startedBy (Parent n) o = By o
+
+-- the origin o counts in an Ancestor or Parent column; any other is read as carrying 0
+abbrev pub counted : Column → ℕ → ℕ
+counted c o = cond (isNamed c) o 0
+
+-- what a slot's column carries
+abbrev pub carried : Slot → ℕ
+carried s = counted (s .column) (s .origin)
+
+-- what the live columns of an array of slots carry
+abbrev pub origins : ℕ → List Slot → List ℕ
+origins n slots = map carried (take n slots)
+
+-- what column i carries; past the last column nothing does
+abbrev pub originAt : List ℕ → ℕ → ℕ
+originAt os i = getD os i 0
+
+-- ---- slots
+
 -- a slot that holds an Empty column
 abbrev pub emptySlot : Slot
-emptySlot = record { column = Empty }
+emptySlot = record { column = Empty; origin = 0 }
 
--- a slot with another column
-abbrev pub withColumn : Slot → Column → Slot
-withColumn s c = record { column = c }
+-- a slot with this column and this origin, where it counts
+abbrev pub slotOf : Column → ℕ → Slot
+slotOf c o = record { column = c; origin = counted c o }
+
+-- the origin of a slot in which this column stands, where it counts, else another node
+abbrev pub originOr : Slot → Column → ℕ → ℕ
+originOr s c n = cond (isNamed c) (s .origin) n
 
 -- the column of the slot at i, where n are live
 abbrev pub columnAt : Slot → ℕ → ℕ → Column
 columnAt s i n = cond (ltb i n) (s .column) Empty
 
--- the slots past the count are Empty: nothing that a call gives depends on it, and from a new shaper on it holds
-abbrev pub SpareEmpty : ℕ → List Slot → Type 0
-SpareEmpty n slots = (i : ℕ) → n ≤ i → (getD slots i emptySlot) .column ≡ Empty
+-- the slots past the count are Empty, and an origin that does not count is 0: nothing that a call gives depends on it, and from a new
+-- shaper on it holds
+pub record SpareEmpty (n : ℕ) (slots : List Slot) : Type 0 where
+  pub past : (i : ℕ) → n ≤ i → getD slots i emptySlot ≡ emptySlot
+  pub origins : (i : ℕ) → (getD slots i emptySlot) .origin ≡ carried (getD slots i emptySlot)

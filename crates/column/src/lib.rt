@@ -3,7 +3,7 @@
 ghost use mathlib.Core.Path.{_≡_};
 ghost use Prim.Native.Nat.{_+_, min, max};
 ghost use lib.ListN.{set};
-ghost use Rattle.column.specs.Columns.{columnLimit, rank as rankOf, holds, isEmpty, isReserved, isAncestor, isParent, columnAt, merge as merged, first, find as findIn, findEmpty, vacant as vacantIn, direct, unblock as unblocked, live, emptySlot, withColumn};
+ghost use Rattle.column.specs.Columns.{columnLimit, rank as rankOf, holds, isEmpty, isReserved, isAncestor, isParent, isNamed, columnAt, merge as merged, first, find as findIn, vacant as vacantIn, direct, unblock as unblocked, live, emptySlot, slotOf, originOr, startedBy};
 
 // The most columns that are held.
 pub const COLUMN_LIMIT: usize = 64;
@@ -17,15 +17,24 @@ pub enum Column {
     Parent(u32),
 }
 
-// What the array of columns holds for each column.
+// What the array of columns holds for each column: the column, and the node whose row first named its id, which counts in an Ancestor or
+// Parent column only.
 pub struct Slot {
     pub column: Column,
+    pub origin: u32,
 }
 
 // What a lookup gives: a column's index, or nothing.
 pub enum Found {
     At(usize),
     Nothing,
+}
+
+// Who started an id's line: the id does not wait, it was only reserved, or the node whose row first named it.
+pub enum Started {
+    NotWaiting,
+    Unnamed,
+    By(u32),
 }
 
 impl Column {
@@ -94,6 +103,19 @@ impl Column {
         }
     }
 
+    // Whether the column's id was named by a row.
+    pub fn is_named(self) -> bool
+        ensures { λ r. ⌜ r ≡ isNamed self ⌝ }
+    {
+        match self {
+            Column::Empty => false,
+            Column::Blocked => false,
+            Column::Reserved(_) => false,
+            Column::Ancestor(_) => true,
+            Column::Parent(_) => true,
+        }
+    }
+
     // The column's rank, from 0 to 4 (`variant` in column.rs).
     pub fn rank(self) -> u8
         ensures { λ r. ⌜ r ≡ rankOf self ⌝ }
@@ -148,15 +170,41 @@ impl Slot {
     pub fn empty() -> Slot
         ensures { λ r. ⌜ r ≡ emptySlot ⌝ }
     {
-        let column = Column::Empty;
-        Slot { column }
+        Slot::new(Column::Empty, 0)
     }
 
-    // The slot with another column; what else it holds stays.
-    pub fn with_column(self, column: Column) -> Slot
-        ensures { λ r. ⌜ r ≡ withColumn self column ⌝ }
+    // A slot with this column and origin; an origin that does not count is 0.
+    pub fn new(column: Column, origin: u32) -> Slot
+        ensures { λ r. ⌜ r ≡ slotOf column origin ⌝ }
     {
-        Slot { column }
+        if column.is_named() {
+            return Slot { column, origin };
+        }
+        Slot { column, origin: 0 }
+    }
+
+    // The node that first named the id of this slot, where `old` stands in it; without one it is `node`.
+    pub fn origin_or(self, old: Column, node: u32) -> u32
+        ensures { λ r. ⌜ r ≡ originOr self old node ⌝ }
+    {
+        if old.is_named() {
+            return self.origin;
+        }
+        node
+    }
+
+    // Who started the line of the slot's id.
+    pub fn started(self) -> Started
+        ensures { λ r. ⌜ r ≡ startedBy (self .column) (self .origin) ⌝ }
+    {
+        let column = self.column;
+        match column {
+            Column::Empty => Started::NotWaiting,
+            Column::Blocked => Started::NotWaiting,
+            Column::Reserved(_) => Started::Unnamed,
+            Column::Ancestor(_) => Started::By(self.origin),
+            Column::Parent(_) => Started::By(self.origin),
+        }
     }
 
     // The slot's column where the slot at `index` is live, else Empty.
@@ -230,22 +278,6 @@ pub fn first_other_empty(slots: [Slot; COLUMN_LIMIT], count: usize, skip: usize)
         place += 1;
     }
     Found::Nothing
-}
-
-// Column `index` if it is Empty, else the first Empty one.
-pub fn find_empty(slots: [Slot; COLUMN_LIMIT], count: usize, index: usize) -> Found
-    ensures { λ r. ⌜ r ≡ findEmpty index (live count slots) ⌝ }
-{
-    let n = live_count(count);
-    if n <= index {
-        return first_empty(slots, count);
-    }
-    let slot = slots[index];
-    let column = slot.column;
-    if column.is_empty() {
-        return Found::At(index);
-    }
-    first_empty(slots, count)
 }
 
 // The first Empty column, else the index of a new last one: the limit itself where there is no room for one.

@@ -11,6 +11,8 @@ module _ (M N : Machine) where
     pub call : M .call k ≡ N .call l
     pub verdict : M .refuses s k ≡ N .refuses t l
     pub after : M .columns (M .after s k) ≡ N .columns (N .after t l)
+    pub origins : M .origins (M .after s k) ≡ N .origins (N .after t l)
+    pub query : M .query (M .after s k) ≡ N .query (N .after t l)
     pub node : M .node s k ≡ N .node t l
     pub head : M .head s k ≡ N .head t l
     pub foot : M .foot s k ≡ N .foot t l
@@ -26,8 +28,9 @@ module _ (M N : Machine) where
   kept s t k l w a e K =
       record {
         held = rw (e .after, e .call, e .verdict) (K .held);
-        waits = rw (e .after, e .call, e .verdict) (K .waits);
+        waits = rw (e .after, e .origins, e .call, e .verdict) (K .waits);
         one = rw (e .after) (K .one);
+        answers = rw (e .query, e .call, e .verdict) (K .answers);
         unblocked = rw (e .after) (K .unblocked);
         full = rw (e .after) (K .full);
         changes = rw (e .columns, e .after, e .call, e .verdict, e .node) (K .changes);

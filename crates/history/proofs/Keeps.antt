@@ -9,26 +9,27 @@ use native.Mathlib.Omega.{arith}
 use native.Mathlib.Decide.{decLt}
 use lib.Dec.{ltb}
 use Rattle.column.specs.declared.Column.{Column}
-use Rattle.column.specs.declared.Column.the-variants.{Empty}
+use Rattle.column.specs.declared.Column.the-variants.{Empty, Blocked, Reserved, Ancestor, Parent}
 use Rattle.column.specs.declared.Found.{Found}
 use Rattle.column.specs.declared.Found.the-variants.{At, Nothing}
-use Rattle.column.specs.Columns.{rank, find, vacant, put}
+use Rattle.column.specs.Columns.{rank, find, vacant, at, put, startedBy, originAt}
 use Rattle.render.specs.declared.render.Ancestor.{Ancestor as Entry}
 use Rattle.render.specs.declared.types.Options.{Options}
 use Rattle.render.specs.declared.types.RowShape.{RowShape}
 use Rattle.render.specs.Entries.{entryId}
 use Rattle.render.specs.Refusals.{refusal}
-use Rattle.shaper.specs.Shaper.{heightLimit, View, Reply, answer, newShaper, reserveChecks, reservedIn, reserved, withColumns, reserve}
+use Rattle.shaper.specs.Shaper.{heightLimit, View, Reply, answer, newShaper, reserveChecks, reservedIn, reserved, reservedOrigins, withColumns, reserve, startedIn}
 use Rattle.shaper.specs.NodeColumn.{nodeColumn}
 use Rattle.placing.specs.Placing.{Placed, placeAt, place}
 use Rattle.row_shape.specs.Row.{RowReply, rowChecks, shapeAt, rowAfter, rowAnswer, row, noShape}
-use Rattle.history.specs.Account.{Call, Reserve, Row, AsNamed, Waiting, callId, isDrawn, nobody, account, waitsAfter}
-use Rattle.history.specs.Demand3.{Stroke, Other, Holds, OneEntry, cell, isStroke, overNode, Pulls, Above, nothingAbove, waitingAfter, aboveAfter, Kept, Each, KeepsEveryLine}
+use Rattle.history.specs.Account.{Call, Reserve, Row, Waiting, callId, isDrawn, nobody, account, waitsAfter, Named, answerOf}
+use Rattle.history.specs.Demand3.{Stroke, Other, Holds, waitOf, OneEntry, cell, isStroke, overNode, Pulls, Above, nothingAbove, waitingAfter, aboveAfter, Kept, Each, KeepsEveryLine}
 use Rattle.history.specs.Ours.{TextArguments, Item, Plain, Text, callOf, textOn, isRefusal, refuses, after, shapeOf, headLine, footLine, ours}
 use Rattle.glyphs.specs.declared.Renderer.{Renderer}
+use Rattle.marked.proofs.Holding.{Where, away, there, findIs}
 use Rattle.history.proofs.AsRow.{row-accepted, accepted-view, refused-view, row-refused}
 use Rattle.history.proofs.Lines.{head-shows as head-line, foot-shows as foot-line}
-use Rattle.history.proofs.Waits.{Wait-in, reserve-keeps, decId}
+use Rattle.history.proofs.Waits.{Wait-in, waits-carried, reserve-keeps, reserved-carries, decId, idle}
 use Rattle.history.proofs.Node.{NodePlaced, node-placed}
 use Rattle.history.proofs.Rows.{Tidy, Shows, row-end-tidy, reserve-tidy, strokes-of, never-other, foot-shows, head-meets, row-keeps, row-moves, reserve-stays, reserve-shows}
 
@@ -39,13 +40,13 @@ record Moves (k : Call) (refused : Bool) (c x i j : ℕ) : Type 0 where
 
 -- the clauses about the lines of an accepted row, of the columns cs and the ids w that wait right after it and the node's column c
 record DrawnRow (cs : List Column) (w : Waiting) (c : ℕ) (head foot before : List Stroke) : Type 0 where
-  strokes : (i : ℕ) → isStroke (cell foot i) ↔ ((x : ℕ) × Holds cs i x × (w x ≡ AsNamed))
+  strokes : (i : ℕ) → isStroke (cell foot i) ↔ ((x : ℕ) × Holds cs i x × Named (w x))
   kinds : (i : ℕ) → cell foot i ≢ Other
   meets : (i : ℕ) → cell head i ≡ overNode c i (cell before i)
 
 -- what holds between two calls
 record Inv (v : View) (w : Waiting) (a : Above) : Type 0 where
-  waiting : Wait-in (v .columns) w
+  waiting : Wait-in (v .columns) (originAt (v .origins)) w
   tidy : Tidy (v .columns)
   shows : Shows (a .foot) (v .columns)
   previous : v .previous ≡ a .node
@@ -81,11 +82,26 @@ reserve-told : (r : ℕ) (v u : View) → answer r v u .refusal ≡ r
 reserve-told zero v u = refl
 reserve-told (suc r) v u = refl
 
-reserve-reply : (v : View) (n r : ℕ) → reserve v n .refusal ≡ r → reserve v n ≡ answer r v (withColumns v (reserved n (v .columns)))
+reserve-reply : (v : View) (n r : ℕ) → reserve v n .refusal ≡ r → reserve v n ≡ answer r v (withColumns v (reserved n (v .columns)) (reservedOrigins n (v .columns) (v .origins)))
 unfolding reserve
 reserve-reply v n r h =
-    let u : View = withColumns v (reserved n (v .columns)) in
+    let u : View = withColumns v (reserved n (v .columns)) (reservedOrigins n (v .columns) (v .origins)) in
     ap (λ (m : ℕ). answer m v u) (sym (reserve-told (refusal (reserveChecks n (v .columns))) v u) ∙ h)
+
+-- a query gives what the account says
+answered : (cs : List Column) (os : List ℕ) (w : Waiting) → Wait-in cs (originAt os) w → (x : ℕ) → startedIn (find x cs) cs os ≡ answerOf (w x)
+answered cs os w W x = go (find x cs) (findIs x cs)
+  where
+    by-column : (c : Column) (o : ℕ) → startedBy c o ≡ answerOf (waitOf c o)
+    by-column Empty o = refl
+    by-column Blocked o = refl
+    by-column (Reserved n) o = refl
+    by-column (Ancestor n) o = refl
+    by-column (Parent n) o = refl
+
+    go : (f : Found) → Where x cs f → startedIn f cs os ≡ answerOf (w x)
+    go f (there i h) = by-column (at cs i) (originAt os i) ∙ ap answerOf (sym (W .waits i x h))
+    go f (away h) = sym (ap answerOf (idle cs (originAt os) w W x h))
 
 module _ (q : Renderer) where
   -- what holds of a call, and after it
@@ -99,7 +115,7 @@ module _ (q : Renderer) where
 
     -- the same of the call c as which it counts, whether it is refused, the view u after it and its shape g
     record Facts (c : Call) (refused : Bool) (u : View) (g : RowShape) : Type 0 where
-      waiting : Wait-in (u .columns) (account c refused w)
+      waiting : Wait-in (u .columns) (originAt (u .origins)) (account c refused w)
       tidy : Tidy (u .columns)
       moving : (x i j : ℕ) → Holds (v .columns) i x → Holds (u .columns) j x → (isDrawn c refused ≡ true → x ≢ callId c) → Moves c refused (g .«node_column») x i j
       placed : isDrawn c refused ≡ true → NodePlaced (v .columns) w (callId c) (g .«node_column») (a .node)
@@ -113,6 +129,7 @@ module _ (q : Renderer) where
         held = F .waiting .held;
         waits = F .waiting .waits;
         one = F .waiting .one;
+        answers = answered (after v k .columns) (after v k .origins) (account (callOf k) (refuses v k) w) (F .waiting);
         unblocked = F .tidy .unblocked;
         full = F .tidy .full;
         changes = λ x i j b c h l o. F .moving x i j h l o .changes;
@@ -173,9 +190,11 @@ module _ (q : Renderer) where
       is-shown n (At j) = I .shows
       is-shown n Nothing = reserve-shows n (v .columns) (a .foot) (I .shows)
 
-      reserve-facts : (n : ℕ) → Facts (Reserve n) false (withColumns v (reserved n (v .columns))) noShape
+      reserve-facts : (n : ℕ) → Facts (Reserve n) false (withColumns v (reserved n (v .columns)) (reservedOrigins n (v .columns) (v .origins))) noShape
       reserve-facts n =
-          let W : Wait-in (reserved n (v .columns)) (waitsAfter (Reserve n) w) = reserve-keeps n (v .columns) w (I .waiting) in
+          let W : Wait-in (reserved n (v .columns)) (originAt (reservedOrigins n (v .columns) (v .origins))) (waitsAfter (Reserve n) w) =
+          waits-carried (reserved n (v .columns)) (originAt (v .origins)) (originAt (reservedOrigins n (v .columns) (v .origins))) (waitsAfter (Reserve n) w) (reserved-carries n (v .columns) (v .origins))
+          (reserve-keeps n (v .columns) (originAt (v .origins)) w (I .waiting)) in
           record {
             waiting = W;
             tidy = is-tidy n (find n (v .columns));
@@ -189,7 +208,7 @@ module _ (q : Renderer) where
 
       reserve-step : (n r : ℕ) → reserve v n .refusal ≡ r → Step v w a (Plain (Reserve n))
       reserve-step n zero h =
-          known (Plain (Reserve n)) false (withColumns v (reserved n (v .columns))) noShape (ap isRefusal h) (ap (λ (r : Reply). r .view) (reserve-reply v n zero h)) refl
+          known (Plain (Reserve n)) false (withColumns v (reserved n (v .columns)) (reservedOrigins n (v .columns) (v .origins))) noShape (ap isRefusal h) (ap (λ (r : Reply). r .view) (reserve-reply v n zero h)) refl
           (reserve-facts n)
       reserve-step n (suc r) h = refused-step (Plain (Reserve n)) (ap isRefusal h) (ap (λ (r : Reply). r .view) (reserve-reply v n (suc r) h))
 
@@ -205,9 +224,9 @@ module _ (q : Renderer) where
         g = shapeAt v n es p
 
         abbrev cs : List Column
-        cs = rowAfter v p .columns
+        cs = rowAfter v n p .columns
 
-        W : Wait-in cs (waitsAfter (Row n es) w)
+        W : Wait-in cs (originAt (rowAfter v n p .origins)) (waitsAfter (Row n es) w)
         W = row-keeps v n es w (I .waiting)
 
         S : Shows (footLine q g) cs
@@ -231,16 +250,16 @@ module _ (q : Renderer) where
                 let y : j ≡ c = m .0 (t .1) r in
                 omega arith
 
-        row-facts : Facts (Row n es) false (rowAfter v p) g
+        row-facts : Facts (Row n es) false (rowAfter v n p) g
         row-facts =
             record {
               waiting = W;
               tidy = row-end-tidy (v .style .«dash_style») (p .settled);
               moving = row-moving;
-              placed = λ d. subst (λ (x : Found). NodePlaced (v .columns) w n c x) (I .previous) (node-placed v n w (I .waiting));
+              placed = λ d. subst (λ (x : Found). NodePlaced (v .columns) w n c x) (I .previous) (node-placed v n (originAt (v .origins)) w (I .waiting));
               drawn = λ d.
                   record {
-                    strokes = strokes-of (footLine q g) cs (waitsAfter (Row n es) w) S W;
+                    strokes = strokes-of (footLine q g) cs (originAt (rowAfter v n p .origins)) (waitsAfter (Row n es) w) S W;
                     kinds = never-other (footLine q g) cs S;
                     meets = λ i. ap (λ (l : List Stroke). cell l i) (head-line q g) ∙ head-meets v n es (a .foot) (I .shows) i;
                   };
@@ -252,8 +271,8 @@ module _ (q : Renderer) where
         accepted-step : (k : Item) → callOf k ≡ Row n es → refuses v k ≡ false → after v k ≡ row v n es .view → row v n es .refusal ≡ 0 → Step v w a k
         accepted-step k s b e h =
             let E : row v n es ≡ rowAnswer zero v n es p = row-reply v n es zero h in
-            known k false (rowAfter v p) g b (e ∙ ap (λ (r : RowReply). r .view) E) (ap (shapeOf v) s ∙ ap (λ (r : RowReply). r .shape) E)
-            (subst (λ (t : Call). Facts t false (rowAfter v p) g) (sym s) row-facts)
+            known k false (rowAfter v n p) g b (e ∙ ap (λ (r : RowReply). r .view) E) (ap (shapeOf v) s ∙ ap (λ (r : RowReply). r .shape) E)
+            (subst (λ (t : Call). Facts t false (rowAfter v n p) g) (sym s) row-facts)
 
         row-step : (r : ℕ) → row v n es .refusal ≡ r → Step v w a (Plain (Row n es))
         row-step zero h = accepted-step (Plain (Row n es)) refl (ap isRefusal h) refl h

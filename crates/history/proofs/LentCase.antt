@@ -1,5 +1,5 @@
 -- M7 as lent calls: contracts that a run meets, so that what is said of every run is said of some; and right answers of single calls.
-use Prim.Native.Nat.{ℕ, zero, suc, _-_}
+use Prim.Native.Nat.{ℕ, zero, suc, _-_, _≤_}
 use mathlib.Core.Path.{_≡_, refl, sym, ap}
 use mathlib.Core.Bool.{false, false≢true}
 use mathlib.Core.List.{List, [], _∷_, _++_, map}
@@ -9,7 +9,9 @@ use Rattle.column.specs.declared.Column.{Column}
 use Rattle.column.specs.declared.Column.the-variants as column
 use Rattle.column.specs.declared.Found.{Found}
 use Rattle.column.specs.declared.Found.the-variants.{At, Nothing}
-use Rattle.column.specs.Columns.{columnLimit, SpareEmpty, emptySlot}
+use Rattle.column.specs.Columns.{columnLimit, SpareEmpty, emptySlot, slotOf, carried}
+use Rattle.column.specs.declared.Started.the-variants.{NotWaiting, Unnamed, By}
+use Rattle.column.proofs.Laws.{counted-twice}
 use Rattle.render.specs.declared.types.DashStyle.the-variants.{Persistent}
 use Rattle.render.specs.declared.types.LinkLinePlacement.the-variants.{Top}
 use Rattle.render.specs.declared.types.Options.{Options}
@@ -26,7 +28,7 @@ use Rattle.width.specs.declared.NewNode.the-variants.{Node, Absent}
 use Rattle.width.specs.Width.{width}
 use Rattle.marked.specs.Marked.{m7-row}
 use Rattle.lineage.specs.declared.ShapeAnswer.{ShapeAnswer}
-use Rattle.lineage.specs.Promises.{LentReserves, LentPreview, LentWidth}
+use Rattle.lineage.specs.Promises.{LentReserves, LentPreview, LentWidth, LentOrigin}
 use Rattle.history.specs.LentCalls.{LentCall, ReserveRan, RowRan, Met, Ran}
 
 -- "height 1 without staggering", Persistent, Top (01, "Added by us")
@@ -46,27 +48,40 @@ new = record { refusal = 0; shaper = fresh options }
 pub is-new : Fresh options new
 is-new = record { reply = refl; whole = refl; options = λ z. refl }
 
--- a shaper with these columns and this previous node column; the slots past them are Empty
-abbrev pub holding : List Column → Found → Shaper
-holding cs p =
+-- a shaper with these columns, of which the named ones carry the node o, and this previous node column; the slots past them are Empty
+abbrev pub holdingBy : ℕ → List Column → Found → Shaper
+holdingBy o cs p =
     record {
-      slots = map (λ (c : Column). record { column = c }) cs ++ replicate (columnLimit - length cs) emptySlot;
+      slots = map (λ (c : Column). slotOf c o) cs ++ replicate (columnLimit - length cs) emptySlot;
       count = length cs;
       «previous_node_column» = p;
       options = options;
     }
 
+-- one in which nothing is named
+abbrev pub holding : List Column → Found → Shaper
+holding = holdingBy 0
+
 -- of Empty slots each is Empty
-all-empty : (n i : ℕ) → (getD (replicate n emptySlot) i emptySlot) .column ≡ column.Empty
+all-empty : (n i : ℕ) → getD (replicate n emptySlot) i emptySlot ≡ emptySlot
 all-empty zero i = refl
 all-empty (suc n) zero = refl
 all-empty (suc n) (suc i) = all-empty n i
 
 -- and so are those behind some columns
-pub spare-empty : (cs : List Column) (n : ℕ) → SpareEmpty (length cs) (map (λ (c : Column). record { column = c }) cs ++ replicate n emptySlot)
-spare-empty [] n i h = all-empty n i
-spare-empty (c ∷ cs) n zero h = absurd (omega (arith, h))
-spare-empty (c ∷ cs) n (suc i) h = spare-empty cs n i (omega (arith, h))
+pub spare-empty : (o : ℕ) (cs : List Column) (n : ℕ) → SpareEmpty (length cs) (map (λ (c : Column). slotOf c o) cs ++ replicate n emptySlot)
+spare-empty o cs n = record { past = past cs; origins = counts cs }
+  where
+    past : (cs : List Column) (i : ℕ) → length cs ≤ i → getD (map (λ (c : Column). slotOf c o) cs ++ replicate n emptySlot) i emptySlot ≡ emptySlot
+    past [] i h = all-empty n i
+    past (c ∷ cs) zero h = absurd (omega (arith, h))
+    past (c ∷ cs) (suc i) h = past cs i (omega (arith, h))
+
+    counts : (cs : List Column) (i : ℕ)
+        → (getD (map (λ (c : Column). slotOf c o) cs ++ replicate n emptySlot) i emptySlot) .origin ≡ carried (getD (map (λ (c : Column). slotOf c o) cs ++ replicate n emptySlot) i emptySlot)
+    counts [] i = rw (all-empty n i)
+    counts (c ∷ cs) zero = sym (counted-twice c o)
+    counts (c ∷ cs) (suc i) = counts cs i
 
 -- ---- M7: "Reserve 9, row 9" (01, "Marked rows")
 
@@ -102,7 +117,7 @@ reserves =
 -- the row meets its contract
 pub rows : Met reserved (RowRan 9 [] ended m7-answer)
 unfolding reserve row place
-rows = record { reply = refl; refused = λ z. absurd (z refl); fits = λ z. omega arith; options = refl; rest = λ z. spare-empty [] columnLimit }
+rows = record { reply = refl; refused = λ z. absurd (z refl); fits = λ z. omega arith; options = refl; rest = λ z. spare-empty 0 [] columnLimit }
 
 -- both do, one after the other
 pub ran : Ran (new .shaper) calls
@@ -179,15 +194,15 @@ m10-shaper = holding (column.Parent 7 ∷ []) (At 0)
 abbrev pub m10-entries : List Entry
 m10-entries = record { ancestor = entry.Parent 7 } ∷ record { ancestor = entry.Parent 8 } ∷ []
 
--- the columns after it
+-- the columns after it, named by its row
 abbrev pub m10-after : Shaper
-m10-after = holding (column.Parent 7 ∷ column.Parent 8 ∷ []) (At 0)
+m10-after = holdingBy 7 (column.Parent 7 ∷ column.Parent 8 ∷ []) (At 0)
 
 -- its node line has 2 cells
 pub m10-previewed : LentPreview m10-shaper 7 m10-entries (showing 0 0 2 m10-after)
 unfolding row place
 m10-previewed =
-    record { reply = refl; refused = λ z. absurd (z refl); fits = λ z. omega arith; rest = λ z. spare-empty (column.Parent 7 ∷ column.Parent 8 ∷ []) 62 }
+    record { reply = refl; refused = λ z. absurd (z refl); fits = λ z. omega arith; rest = λ z. spare-empty 7 (column.Parent 7 ∷ column.Parent 8 ∷ []) 62 }
 
 -- 64 columns, the first of them Parent 0
 abbrev pub full-after : Shaper
@@ -197,7 +212,7 @@ full-after = holding (column.Parent 0 ∷ drop 1 (reservedBelow columnLimit)) (A
 pub full-previewed : LentPreview full 0 (record { ancestor = entry.Parent 0 } ∷ []) (showing 0 0 64 full-after)
 unfolding row place
 full-previewed =
-    record { reply = refl; refused = λ z. absurd (z refl); fits = λ z. omega arith; rest = λ z. spare-empty (column.Parent 0 ∷ drop 1 (reservedBelow columnLimit)) 0 }
+    record { reply = refl; refused = λ z. absurd (z refl); fits = λ z. omega arith; rest = λ z. spare-empty 0 (column.Parent 0 ∷ drop 1 (reservedBelow columnLimit)) 0 }
 
 -- a shaper with its count set by hand
 abbrev pub counting : ℕ → Shaper → Shaper
@@ -212,3 +227,13 @@ pub beyond-refused : LentPreview beyond 64 [] (showing nodeLineTooWide 0 0 beyon
 unfolding row place
 beyond-refused =
     record { reply = refl; refused = λ z. (refl, refl); fits = λ z. absurd (omega (arith, z)); rest = λ z. absurd (omega (arith, z)) }
+
+-- ---- queries: "A query by id gives that node, none, or not waiting." (02, R-3)
+
+-- after M10's row of 7 both its parents were first named by 7, itself too
+pub m10-started : LentOrigin m10-after 7 (By 7) × LentOrigin m10-after 8 (By 7)
+m10-started = (refl, refl)
+
+-- one that was only reserved has none, and one that no column holds does not wait
+pub only-reserved : LentOrigin reserved 9 Unnamed × LentOrigin reserved 7 NotWaiting
+only-reserved = (refl, refl)

@@ -5,17 +5,18 @@ use Rattle.render.specs.declared.types.Options.{Options}
 use Rattle.render.specs.declared.types.RowShape.{RowShape}
 use Rattle.shaper.specs.declared.Shaper.{Shaper}
 use Rattle.shaper.specs.declared.Answer.{Answer}
-use Rattle.shaper.specs.Shaper.{View, Reply, viewOf, Fresh}
+use Rattle.shaper.specs.Shaper.{View, Reply, viewOf, origin, Fresh}
 use Rattle.row_shape.specs.Row.{RowReply}
 use Rattle.text.specs.Text.{TextReply}
 use Rattle.glyphs.specs.declared.Renderer.{Renderer}
 use Rattle.history.specs.Account.{nobody}
-use Rattle.history.specs.Demand3.{nothingAbove, KeepsEveryLine}
+use Rattle.history.specs.Demand3.{nothingAbove, Kept, Each, KeepsEveryLine}
 use Rattle.history.specs.Follows.{leaves, verdicts}
 use Rattle.history.specs.Ours.{isRefusal, refuses, after, callOf, shapeOf, headLine, footLine, ours}
-use Rattle.history.specs.LentCalls.{LentCall, ReserveRan, RowRan, TextRan, exit, number, Met, Ran, itemOf, lentShape, lent}
+use Rattle.history.specs.LentCalls.{LentCall, ReserveRan, RowRan, TextRan, exit, number, Met, Ran, itemOf, lentShape, lent, Queried}
 use Rattle.history.proofs.Alike.{Alike, AllAlike, alike-keeps}
 use Rattle.history.proofs.Keeps.{keeps-every-line}
+use Rattle.history.proofs.Follows.{each}
 
 -- what a call leaves and gives, and what our machine gives for it
 pub record Same (s : Shaper) (k : LentCall) : Type 0 where
@@ -49,6 +50,8 @@ alike q s k e =
       call = refl;
       verdict = e .verdict;
       after = ap (λ (v : View). v .columns) (e .view);
+      origins = ap (λ (v : View). v .origins) (e .view);
+      query = ap origin (e .view);
       node = ap (λ (g : RowShape). g .«node_column») (e .shape);
       head = ap (headLine q) (e .shape);
       foot = ap (footLine q) (e .shape);
@@ -68,3 +71,9 @@ lent-calls-keep q o a n ks r =
       fresh = K .fresh;
       calls = alike-keeps (lent q) (ours q) (a .shaper) (viewOf (a .shaper)) ks (map itemOf ks) nobody nothingAbove (all-alike q (a .shaper) ks r) (K .calls);
     }
+
+-- "A query by id gives that node, none, or not waiting." (02, R-3), of the call itself, after each call
+pub lent-queries-answer : (q : Renderer) (o : Options) (a : Answer) → Fresh o a → (ks : List LentCall) → Ran (a .shaper) ks
+    → Each (lent q) (Queried q) (a .shaper) nobody nothingAbove ks
+lent-queries-answer q o a n ks r =
+    each (lent q) (Kept (lent q)) (Queried q) (λ s w b k K x y h. h ∙ K .answers x) (a .shaper) nobody nothingAbove ks (lent-calls-keep q o a n ks r .calls)

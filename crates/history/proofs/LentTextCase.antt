@@ -31,7 +31,7 @@ use Rattle.text.specs.Text.{textWith}
 use Rattle.marked.specs.MarkedListing.{bytes, page, m1-mark}
 use Rattle.lineage.specs.declared.ShapeAnswer.{ShapeAnswer}
 use Rattle.history.specs.LentCalls.{TextRun, LentCall, RowRan, TextRan, Met, Ran}
-use Rattle.history.proofs.LentCase.{options, new, holding, spare-empty}
+use Rattle.history.proofs.LentCase.{options, new, holding, holdingBy, spare-empty}
 
 -- an entry of a lent list
 abbrev pub entryOf : Ancestor → Entry
@@ -46,11 +46,11 @@ counted b (suc n) = b ∷ counted (suc b) n
 
 -- after row 1 (Parent 2, Ancestor 3): "previous=0 columns=Parent 2,Ancestor 3"
 abbrev pub after-row : Shaper
-after-row = holding (column.Parent 2 ∷ column.Ancestor 3 ∷ []) (At 0)
+after-row = holdingBy 1 (column.Parent 2 ∷ column.Ancestor 3 ∷ []) (At 0)
 
 -- after the text call of node 2 (Anonymous): "previous=0 columns=Empty,Ancestor 3"
 abbrev pub after-text : Shaper
-after-text = holding (column.Empty ∷ column.Ancestor 3 ∷ []) (At 0)
+after-text = holdingBy 1 (column.Empty ∷ column.Ancestor 3 ∷ []) (At 0)
 
 -- after the text call of node 3 without entries: "previous=1 columns="
 abbrev pub at-end : Shaper
@@ -109,7 +109,7 @@ row-accepted =
       refused = λ z. absurd (z refl);
       fits = λ z. omega arith;
       options = refl;
-      rest = λ z. spare-empty (column.Parent 2 ∷ column.Ancestor 3 ∷ []) 62;
+      rest = λ z. spare-empty 1 (column.Parent 2 ∷ column.Ancestor 3 ∷ []) 62;
     }
 
 -- ---- text calls
@@ -152,7 +152,7 @@ text-accepted =
       fits = λ z. omega arith;
       options = refl;
       queue = λ z. (omega arith, λ e. absurd (false≢true (sym e)));
-      rest = λ z. spare-empty (column.Empty ∷ column.Ancestor 3 ∷ []) 62;
+      rest = λ z. spare-empty 1 (column.Empty ∷ column.Ancestor 3 ∷ []) 62;
     }
 
 -- the text call of node 3 without entries, its output a byte shorter than its lines: "text 8 0 0"
@@ -234,7 +234,7 @@ text-flushes =
       fits = λ z. omega arith;
       options = refl;
       queue = λ z. (omega arith, λ e. refl);
-      rest = λ z. spare-empty [] 64;
+      rest = λ z. spare-empty 0 [] 64;
     }
 
 -- ---- the run

@@ -7,7 +7,11 @@ use mathlib.Core.Option.{Option, some, Option·some-injective}
 use native.Mathlib.Omega.{arith}
 use lib.ListN.{length, getD, set}
 use Rattle.column.specs.declared.Found.the-variants.{At}
-use Rattle.column.specs.Columns.{rank, idOf, emptySlot}
+use Rattle.column.specs.Columns.{rank, idOf, originAt, emptySlot}
+use Rattle.column.specs.declared.Column.the-variants as column
+use Rattle.column.specs.declared.Slot.{Slot}
+use Rattle.column.specs.declared.Started.{Started}
+use Rattle.column.specs.declared.Started.the-variants.{NotWaiting, Unnamed, By}
 use Rattle.render.specs.declared.render.Ancestor.the-variants as entry
 use Rattle.render.specs.Refusals.{noColumnLeft, nodeLineTooWide}
 use Rattle.shaper.specs.declared.Shaper.{Shaper}
@@ -23,7 +27,7 @@ use Rattle.output.specs.declared.TextState.{TextState}
 use Rattle.output.specs.Measure.{measureOf}
 use Rattle.text.specs.Text.{TextReply, textWith}
 use Rattle.lineage.specs.declared.LengthAnswer.{LengthAnswer}
-use Rattle.lineage.specs.Promises.{LentReserves, LentRows, LentPreview, LentWidth}
+use Rattle.lineage.specs.Promises.{LentReserves, LentRows, LentPreview, LentWidth, LentOrigin}
 use Rattle.history.specs.LentCalls.{TextRun, TextRan, Met}
 use Rattle.history.proofs.LentCase.{options, holding, reserved, m7-answer, full, last-empty, showing, m10-shaper, m10-entries, m10-after, full-after, counting, beyond}
 use Rattle.history.proofs.LentTextCase.{row-entries, row-answer, after-text, at-end, too-many, too-many-answer, too-short, flushing}
@@ -38,6 +42,12 @@ stored s i n =
       options = s .options;
     }
 
+-- whether a query gave a node, as a number
+abbrev answers : Started → ℕ
+answers NotWaiting = 0
+answers Unnamed = 0
+answers (By m) = 1
+
 -- ---- rows
 
 -- an accepted row, its shape true, that leaves the shaper as it was (right: LentCase.rows)
@@ -49,6 +59,20 @@ not-row-unstored k = let z : _≡_ {A = ℕ} 1 0 = ap (λ (a : RowReply). length
 pub not-row-columns-untouched : LentRows (fresh options) 1 row-entries (holding [] (At 0)) row-answer → ⊥
 unfolding row place
 not-row-columns-untouched k = let z : _≡_ {A = ℕ} 0 2 = ap (λ (a : RowReply). length (a .view .columns)) (k .reply) in omega arith
+
+-- the columns are right, and carry no node: "carries the node in whose accepted row its id was first named" (02, R-3; right: LentTextCase.row-accepted)
+pub not-row-without-origins : LentRows (fresh options) 1 row-entries (holding (column.Parent 2 ∷ column.Ancestor 3 ∷ []) (At 0)) row-answer → ⊥
+unfolding row place
+not-row-without-origins k = let z : _≡_ {A = ℕ} 0 1 = ap (λ (a : RowReply). originAt (a .view .origins) 0) (k .reply) in omega arith
+
+-- a shaper with a node in slot i that does not count there
+abbrev left-in : Shaper → ℕ → Shaper
+left-in s i = record { slots = set (s .slots) i (record { column = column.Empty; origin = 7 }); count = s .count; «previous_node_column» = s .«previous_node_column»; options = s .options }
+
+-- an accepted row that leaves a node in an Empty slot behind the columns (right: LentCase.rows)
+pub not-origin-left-behind : LentRows reserved 9 [] (left-in (holding [] (At 0)) 5) m7-answer → ⊥
+unfolding row place reserve
+not-origin-left-behind k = let z : _≡_ {A = ℕ} 7 0 = k .rest refl .origins 5 in omega arith
 
 -- the rank of the column in slot i
 abbrev rankAt : ℕ → Shaper → ℕ
@@ -116,7 +140,7 @@ not-preview-of-the-columns-before k = let z : _≡_ {A = ℕ} 1 2 = ap (λ (a : 
 
 -- a preview that leaves an id behind the columns (right: LentCase.m10-previewed)
 pub not-preview-stored-behind : LentPreview m10-shaper 7 m10-entries (showing 0 0 2 (stored m10-after 2 4)) → ⊥
-not-preview-stored-behind k = let z : _≡_ {A = ℕ} 2 0 = ap rank (k .rest refl 2 (omega arith)) in omega arith
+not-preview-stored-behind k = let z : _≡_ {A = ℕ} 2 0 = ap (λ (s : Slot). rank (s .column)) (k .rest refl .past 2 (omega arith)) in omega arith
 
 -- a preview that counts one column more than the 64 that it shows, though a count of 65 is read as 64 (right: LentCase.full-previewed)
 pub not-preview-counted-beyond : LentPreview full 0 (record { ancestor = entry.Parent 0 } ∷ []) (showing 0 0 64 (counting 65 full-after)) → ⊥
@@ -130,6 +154,16 @@ not-refused-preview-shown k = let z : _≡_ {A = ℕ} 1 0 = ap (λ (a : PreviewR
 -- a refused preview that gives another count than the shaper's, though both are read as 64 (right: LentCase.beyond-refused)
 pub not-refused-preview-counted : LentPreview beyond 64 [] (showing nodeLineTooWide 0 0 full) → ⊥
 not-refused-preview-counted k = let z : _≡_ {A = ℕ} 64 65 = k .refused (λ e. omega (arith, e)) .1 in omega arith
+
+-- ---- queries
+
+-- a node for an id that was only reserved (right: LentCase.only-reserved)
+pub not-started-when-reserved : LentOrigin reserved 9 (By 9) → ⊥
+not-started-when-reserved k = let z : _≡_ {A = ℕ} 1 0 = ap answers k in omega arith
+
+-- none for an id that its own row named (right: LentCase.m10-started)
+pub not-unnamed-when-named : LentOrigin m10-after 7 Unnamed → ⊥
+not-unnamed-when-named k = let z : _≡_ {A = ℕ} 0 1 = ap answers k in omega arith
 
 -- ---- texts
 

@@ -1,5 +1,6 @@
 pub mod Lines
 pub mod Waits
+pub mod Words
 pub mod Rows
 pub mod Node
 pub mod AsRow

@@ -77,14 +77,14 @@ pub record NodePlaced (cs : List Column) (w : Waiting) (n c : ℕ) (p : Found) :
   pub first : w n ≡ Idle → (i : ℕ) → i < c → at cs i ≡ Empty → p ≡ At i
 
 -- they hold, from what waits before the row and the node's column of the row before
-pub node-placed : (v : View) (n : ℕ) (w : Waiting) → Wait-in (v .columns) w → NodePlaced (v .columns) w n (nodeColumn v n) (v .previous)
-node-placed v n w W = record { own = own (nodeSpot v n); empty = empty (nodeSpot v n); first = λ z. left (find n (v .columns)) (findIs n (v .columns)) z }
+pub node-placed : (v : View) (n : ℕ) (os : ℕ → ℕ) (w : Waiting) → Wait-in (v .columns) os w → NodePlaced (v .columns) w n (nodeColumn v n) (v .previous)
+node-placed v n os w W = record { own = own (nodeSpot v n); empty = empty (nodeSpot v n); first = λ z. left (find n (v .columns)) (findIs n (v .columns)) z }
   where
     cs : List Column
     cs = v .columns
 
     idle-held : (i : ℕ) → w n ≡ Idle → Holds cs i n → ⊥
-    idle-held i z h = busy (at cs i) n h (sym (W .waits i n h) ∙ z)
+    idle-held i z h = busy (at cs i) (os i) n h (sym (W .waits i n h) ∙ z)
 
     own : Spot (some n) cs (nodeColumn v n) → w n ≢ Idle → Holds cs (nodeColumn v n) n
     own (taken m e q) z = q ∙ sym e

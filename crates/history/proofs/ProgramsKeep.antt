@@ -10,7 +10,7 @@ use lib.ListN.{length, take, length-replicate}
 use borrow.Author.Tests.{eqb-true}
 use Rattle.render.specs.Mark.{isMark}
 use Rattle.render.specs.Refusals.{notRefused, outputShorterThanLines, refusal}
-use Rattle.shaper.specs.Shaper.{View, newShaper}
+use Rattle.shaper.specs.Shaper.{View, newShaper, origin}
 use Rattle.row_shape.specs.Row.{RowReply, row}
 use Rattle.row_shape.proofs.RowFits.{row-fits}
 use Rattle.glyphs.specs.declared.Renderer.{Renderer}
@@ -144,6 +144,8 @@ module _ (P : Program) (q : Renderer)
         call = e;
         verdict = c .verdict;
         after = ap (λ (v : View). v .columns) (c .view);
+        origins = ap (λ (v : View). v .origins) (c .view);
+        query = ap origin (c .view);
         node = ap (λ (k : Call). shapeOf (s .progress .view) k .«node_column») e;
         head = ap (λ (k : Call). headLine q (shapeOf (s .progress .view) k)) e;
         foot = ap (λ (k : Call). footLine q (shapeOf (s .progress .view) k)) e;

@@ -1,8 +1,8 @@
 -- A row: the swap, the reset, and what they leave of the ids that wait, of their columns, and of the lines.
-use Prim.Native.Nat.{ℕ, zero, suc, _+_, _-_, _≤_, _<_}
+use Prim.Native.Nat.{ℕ, zero, suc, _-_, _≤_, _<_}
 use mathlib.Core.Path.{_≡_, refl, sym, _∙_, ap, subst}
 use mathlib.Core.Logic.{_≢_, _↔_}
-use mathlib.Core.Bool.{Bool, true, false, cond}
+use mathlib.Core.Bool.{Bool, true, false, cond, false≢true}
 use mathlib.Core.List.{List, [], _∷_, map, _++_}
 use mathlib.Core.Option.{some, Option·none-ne-some, Option·some-injective}
 use native.Mathlib.Omega.{arith}
@@ -15,7 +15,7 @@ use Rattle.column.specs.declared.Column.{Column}
 use Rattle.column.specs.declared.Column.the-variants.{Empty, Blocked, Reserved, Ancestor, Parent}
 use Rattle.column.specs.declared.Found.{Found}
 use Rattle.column.specs.declared.Found.the-variants.{At, Nothing}
-use Rattle.column.specs.Columns.{columnLimit, rank, idOf, find, vacant, orElse, merge, isReserved, isParent, unblock, keep, trim, at, put}
+use Rattle.column.specs.Columns.{columnLimit, rank, idOf, isNamed, find, vacant, orElse, merge, isReserved, isParent, unblock, keep, trim, at, put, originAt}
 use Rattle.column.proofs.Positions.{at-put-same, at-put-other, length-put, past-end}
 use Rattle.render.specs.declared.render.Ancestor.{Ancestor as Entry}
 use Rattle.render.specs.declared.render.NodeLine.the-variants as node
@@ -26,41 +26,51 @@ use Rattle.render.specs.Entries.{entryId}
 use Rattle.render.specs.Lines.{blankCell, nodeToPad, footPad, preNodeLine, postAncestryLine}
 use Rattle.shaper.specs.Shaper.{View}
 use Rattle.shaper.specs.NodeColumn.{dense, staggered, nodeColumn, head}
-use Rattle.placing.specs.Placing.{columnOf, parentColumn, enter, walk, swap, gaveUp, swapped, solidOnce, placeAt, kindOf, drawsAt}
+use Rattle.placing.specs.Placing.{columnOf, parentColumn, enter, walk, swap, gaveUp, swapped, solidOnce, placeAt, kindOf, drawsAt, source, lineOrigin, originAfter}
 use Rattle.links.specs.declared.Drawn.{Drawn}
 use Rattle.links.specs.declared.Swap.{Swap}
 use Rattle.links.specs.declared.AncestorColumnBounds.{AncestorColumnBounds}
 use Rattle.links.specs.Links.{boundsOf, linked}
 use Rattle.cells.specs.Cells.{besideNode, nodeCell, padOf, cellOf, cellsFrom}
 use Rattle.row_shape.specs.Row.{shapeAt}
-use Rattle.marked.proofs.Holding.{Where, away, there, findIs, at-vacant, at-staggered, Spot, spotIs, nodeSpot, spot-only, empty-holds, enter-stays, walk-stays, flip, flip-left, flip-else, flip-flip, at-swap, rowEnd, solidColumn, at-row-end, end-keeps, ids-kept, row-end-stays}
+use Rattle.marked.proofs.Holding.{Where, away, there, findIs, at-vacant, at-staggered, Spot, spotIs, nodeSpot, spot-only, empty-holds, enter-stays, walk-stays, flip, flip-left, flip-right, flip-else, flip-flip, at-swap, rowEnd, solidColumn, at-row-end, end-keeps, ids-kept, row-end-stays}
 use Rattle.placing.proofs.PlacingLaws.{walk-more}
-use Rattle.cells.proofs.CellLaws.{length-cells}
-use Rattle.history.specs.Account.{Row, AsNamed, Waiting, waitsAfter}
+use Rattle.placing.proofs.SwapLaws.{left-empty}
+use Rattle.cells.proofs.CellLaws.{length-cells, cells-inside}
+use Rattle.history.specs.Account.{Row, Waiting, ended, waitsAfter, Named}
 use Rattle.history.specs.Demand3.{Stroke, Blank, Other, Holds, waitOf, OneEntry, cell, isStroke, solid, overNode}
 use Rattle.history.proofs.Lines.{padStroke, pad-known}
-use Rattle.history.proofs.Waits.{Wait-in, rearranged, spot-alone, walk-keeps, bare-keeps, ending}
+use Rattle.history.proofs.Waits.{Wait-in, waits-carried, rearranged, spot-alone, walk-keeps, bare-keeps}
 
 -- ---- the swap
-swapped-keeps : (f : Found) (c : ℕ) (cs : List Column) (w : Waiting) → Wait-in cs w → Wait-in (swapped f c cs) w
-swapped-keeps Nothing c cs w W = W
-swapped-keeps (At p) c cs w W =
-    rearranged cs (swap c p cs) w (flip c p) (flip-flip c p) (λ i. ap idOf (at-swap c p cs i)) (λ i. ap waitOf (at-swap c p cs i)) W
+swapped-keeps : (f : Found) (c : ℕ) (cs : List Column) (os : ℕ → ℕ) (w : Waiting) → ((p : ℕ) → f ≡ At p → at cs c ≡ Empty) → Wait-in cs os w
+    → Wait-in (swapped f c cs) (λ i. os (source f c i)) w
+swapped-keeps Nothing c cs os w h W = W
+swapped-keeps (At p) c cs os w h W =
+    waits-carried (swap c p cs) (λ i. os (flip c p i)) (λ i. os (source (At p) c i)) w (λ i n. ap os (from i n (eqb i c) refl (eqb i p) refl))
+    (rearranged cs (swap c p cs) os w (flip c p) (flip-flip c p) (λ i. ap idOf (at-swap c p cs i)) (λ i. ap (λ (x : Column). waitOf x (os (flip c p i))) (at-swap c p cs i)) W)
+  where
+    -- the column given up is Empty, so that no line comes to it
+    from : (i : ℕ) → isNamed (at (swap c p cs) i) ≡ true → (a : Bool) → eqb i c ≡ a → (b : Bool) → eqb i p ≡ b → cond a p i ≡ flip c p i
+    from i n true q b r = sym (ap (flip c p) (eqb-true i c q) ∙ flip-left c p)
+    from i n false q true r =
+        absurd (false≢true (sym (ap isNamed (at-swap c p cs i ∙ ap (at cs) (ap (flip c p) (eqb-true i p r) ∙ flip-right c p) ∙ h p refl)) ∙ n))
+    from i n false q false r = sym (flip-else c p i (eqb-false i c q) (eqb-false i p r))
 
 -- where an id is after the entries and the swap
-pub settle-moves : (c : ℕ) (es : List Entry) (cs : List Column) (w : Waiting) (i x : ℕ) → Wait-in cs w → at cs c ≡ Empty → Holds cs i x
+pub settle-moves : (c : ℕ) (es : List Entry) (cs : List Column) (os : ℕ → ℕ) (w : Waiting) (i x : ℕ) → Wait-in cs os w → at cs c ≡ Empty → Holds cs i x
     → (OneEntry x es → c < i → Holds (swapped (gaveUp c es cs) c (walk c es cs)) c x)
     × ((OneEntry x es → c < i → ⊥) → Holds (swapped (gaveUp c es cs) c (walk c es cs)) i x)
-settle-moves c [] cs w i x W b h = (λ o l. absurd o, λ n. h)
-settle-moves c (e ∷ f ∷ es) cs w i x W b h = (λ o l. absurd o, λ n. walk-stays c (e ∷ f ∷ es) cs i x h)
-settle-moves c (e ∷ []) cs w i x W b h = (pulled (parentColumn c e cs) (spotIs c e cs), λ n. stays (parentColumn c e cs) (spotIs c e cs) n (ltb c (parentColumn c e cs)) refl)
+settle-moves c [] cs os w i x W b h = (λ o l. absurd o, λ n. h)
+settle-moves c (e ∷ f ∷ es) cs os w i x W b h = (λ o l. absurd o, λ n. walk-stays c (e ∷ f ∷ es) cs i x h)
+settle-moves c (e ∷ []) cs os w i x W b h = (pulled (parentColumn c e cs) (spotIs c e cs), λ n. stays (parentColumn c e cs) (spotIs c e cs) n (ltb c (parentColumn c e cs)) refl)
   where
     inside : Holds (enter c e cs) i x
     inside = enter-stays c e cs i x h
 
     pulled : (p : ℕ) → Spot (entryId e) cs p → entryId e ≡ some x → c < i → Holds (swapped (cond (ltb c p) (At p) Nothing) c (enter c e cs)) c x
     pulled p S o l =
-        let q : i ≡ p = spot-alone (entryId e) cs w p W S i x o h in
+        let q : i ≡ p = spot-alone (entryId e) cs os w p W S i x o h in
         rw (lt-ltb c p (omega arith))
         (ap idOf (at-swap c p (enter c e cs) c ∙ ap (at (enter c e cs)) (flip-left c p ∙ sym q)) ∙ inside)
 
@@ -77,14 +87,17 @@ settle-moves c (e ∷ []) cs w i x W b h = (pulled (parentColumn c e cs) (spotIs
         not-p z = n (spot-only (entryId e) cs p S x (subst (λ (k : ℕ). Holds cs k x) z h)) (omega (arith, ltb-true c p t))
 
 -- ---- the end of a row
-kinds-kept : (d : DashStyle) (c : Column) → waitOf (unblock (solidColumn d c)) ≡ waitOf c
-kinds-kept = end-keeps waitOf refl (λ n. refl)
+kinds-kept : (d : DashStyle) (o : ℕ) (c : Column) → waitOf (unblock (solidColumn d c)) o ≡ waitOf c o
+kinds-kept d o = end-keeps (λ (c : Column). waitOf c o) refl (λ n. refl) d
 
-row-end-keeps : (d : DashStyle) (cs : List Column) (w : Waiting) → Wait-in cs w → Wait-in (rowEnd d cs) w
-row-end-keeps d cs w W =
-    rearranged cs (rowEnd d cs) w (λ i. i) (λ i. refl)
+named-kept : (d : DashStyle) (c : Column) → isNamed (unblock (solidColumn d c)) ≡ isNamed c
+named-kept = end-keeps isNamed refl (λ n. refl)
+
+row-end-keeps : (d : DashStyle) (cs : List Column) (os : ℕ → ℕ) (w : Waiting) → Wait-in cs os w → Wait-in (rowEnd d cs) os w
+row-end-keeps d cs os w W =
+    rearranged cs (rowEnd d cs) os w (λ i. i) (λ i. refl)
     (λ i. ap idOf (at-row-end d cs i) ∙ ids-kept d (at cs i))
-    (λ i. ap waitOf (at-row-end d cs i) ∙ kinds-kept d (at cs i)) W
+    (λ i. ap (λ (c : Column). waitOf c (os i)) (at-row-end d cs i) ∙ kinds-kept d (os i) (at cs i)) W
 
 never-blocked : (c : Column) → unblock c ≢ Blocked
 never-blocked Empty z = omega (arith, ap rank z)
@@ -150,12 +163,6 @@ pad c = padStroke (padOf c)
 abbrev pub Shows : List Stroke → List Column → Type 0
 Shows f cs = (i : ℕ) → cell f i ≡ pad (at cs i)
 
--- cell i of a line that is made from a function of the place
-cells-in : (f : ℕ → Stroke) (k w i : ℕ) → i < w → cell (cellsFrom f k w) i ≡ f (k + i)
-cells-in f k zero i h = absurd (omega arith)
-cells-in f k (suc w) zero h = let z : k ≡ k + 0 = omega arith in ap f z
-cells-in f k (suc w) (suc i) h = let z : suc k + i ≡ k + suc i = omega arith in cells-in f (suc k) w i (omega arith) ∙ ap f z
-
 map-map : {A B C : Type 0} (g : B → C) (f : A → B) (l : List A) → map g (map f l) ≡ map (λ x. g (f x)) l
 map-map g f [] = refl
 map-map g f (a ∷ l) = ap (λ r. g (f a) ∷ r) (map-map g f l)
@@ -169,7 +176,7 @@ line-at : (f : ℕ → Stroke) (w : ℕ) → ((i : ℕ) → w ≤ i → f i ≡ 
 line-at f w h i = go (ltb i w) refl
   where
     go : (t : Bool) → ltb i w ≡ t → cell (cellsFrom f 0 w) i ≡ f i
-    go true e = let z : 0 + i ≡ i = omega arith in cells-in f 0 w i (ltb-true _ _ e) ∙ ap f z
+    go true e = cells-inside f Blank w i (ltb-true _ _ e)
     go false e = List·getD-eq-default (cellsFrom f 0 w) Blank (rw (length-cells f Blank 0 w) (ltb-false _ _ e)) ∙ sym (h i (ltb-false _ _ e))
 
 foot-pad : (d : DashStyle) (c : Column) → padStroke (footPad d (padOf c)) ≡ pad (unblock (solidColumn d c))
@@ -185,25 +192,25 @@ foot-pad Once (Ancestor n) = refl
 foot-pad Once (Parent n) = refl
 
 -- strokes are the ids that wait as named
-pad-named : (c : Column) → isStroke (pad c) → (x : ℕ) × (idOf c ≡ some x) × (waitOf c ≡ AsNamed)
-pad-named Empty h = absurd h
-pad-named Blocked h = absurd h
-pad-named (Reserved n) h = absurd h
-pad-named (Ancestor n) h = (n, refl, refl)
-pad-named (Parent n) h = (n, refl, refl)
+pad-named : (c : Column) (o : ℕ) → isStroke (pad c) → (x : ℕ) × (idOf c ≡ some x) × Named (waitOf c o)
+pad-named Empty o h = absurd h
+pad-named Blocked o h = absurd h
+pad-named (Reserved n) o h = absurd h
+pad-named (Ancestor n) o h = (n, refl, tt)
+pad-named (Parent n) o h = (n, refl, tt)
 
-named-pad : (c : Column) → waitOf c ≡ AsNamed → isStroke (pad c)
-named-pad Empty h = let q : _≡_ {A = ℕ} 0 1 = cc in absurd (omega arith)
-named-pad Blocked h = let q : _≡_ {A = ℕ} 0 1 = cc in absurd (omega arith)
-named-pad (Reserved n) h = let q : _≡_ {A = ℕ} 0 1 = cc in absurd (omega arith)
-named-pad (Ancestor n) h = tt
-named-pad (Parent n) h = tt
+named-pad : (c : Column) (o : ℕ) → Named (waitOf c o) → isStroke (pad c)
+named-pad Empty o h = absurd h
+named-pad Blocked o h = absurd h
+named-pad (Reserved n) o h = absurd h
+named-pad (Ancestor n) o h = tt
+named-pad (Parent n) o h = tt
 
-pub strokes-of : (f : List Stroke) (cs : List Column) (w : Waiting) → Shows f cs → Wait-in cs w → (i : ℕ)
-    → isStroke (cell f i) ↔ ((x : ℕ) × Holds cs i x × (w x ≡ AsNamed))
-strokes-of f cs w S W i = (
-  λ h. let p = pad-named (at cs i) (subst isStroke (S i) h) in (p .0, p .1, W .waits i (p .0) (p .1) ∙ p .2),
-  λ p. subst isStroke (sym (S i)) (named-pad (at cs i) (sym (W .waits i (p .0) (p .1)) ∙ p .2)),
+pub strokes-of : (f : List Stroke) (cs : List Column) (os : ℕ → ℕ) (w : Waiting) → Shows f cs → Wait-in cs os w → (i : ℕ)
+    → isStroke (cell f i) ↔ ((x : ℕ) × Holds cs i x × Named (w x))
+strokes-of f cs os w S W i = (
+  λ h. let p = pad-named (at cs i) (os i) (subst isStroke (S i) h) in (p .0, p .1, subst Named (sym (W .waits i (p .0) (p .1))) (p .2)),
+  λ p. subst isStroke (sym (S i)) (named-pad (at cs i) (os i) (subst Named (W .waits i (p .0) (p .1)) (p .2))),
 )
 
 -- no cell of a line that shows columns has another glyph
@@ -320,15 +327,37 @@ module _ (v : View) (n : ℕ) (es : List Entry) where
           ∙ ap solid (ap (λ (k : ℕ). pad (at (v .columns) k)) (sym (eqb-true i c e)) ∙ sym (S i))
       go false e = beside-node hd (at bare i) ∙ ap pad (at-put-other (v .columns) c Empty i (eqb-false i c e)) ∙ sym (S i)
 
-  module _ (w : Waiting) (W : Wait-in (v .columns) w) where
-    bare-waits : Wait-in bare (ending n w)
-    bare-waits = bare-keeps n (v .columns) w c (nodeSpot v n) W
+  module _ (w : Waiting) (W : Wait-in (v .columns) (originAt (v .origins)) w) where
+    -- what the line in each column carries after the row, if the row leaves it named
+    abbrev lines : ℕ → ℕ
+    lines i = lineOrigin n bare (v .origins) i
 
-    pub row-keeps : Wait-in end (waitsAfter (Row n es) w)
+    bare-waits : Wait-in bare lines (ended n w)
+    bare-waits =
+        waits-carried bare (originAt (v .origins)) lines (ended n w) (λ i h. rw h) (bare-keeps n (v .columns) (originAt (v .origins)) w c (nodeSpot v n) W)
+
+    settled-waits : Wait-in settled (λ i. lines (source (gaveUp c es bare) c i)) (waitsAfter (Row n es) w)
+    settled-waits =
+        swapped-keeps (gaveUp c es bare) c ws lines (waitsAfter (Row n es) w) (λ p u. left-empty c es bare p u (at-put-same (v .columns) c Empty))
+        (walk-keeps n c es bare lines (ended n w) (waitsAfter (Row n es) w) (λ i h. rw h) bare-waits (λ x. refl))
+
+    -- what the columns carry after the row is what their lines do
+    pub row-keeps : Wait-in end (originAt (cellsFrom (originAfter n (placeAt c es bare) (v .origins)) 0 (length end))) (waitsAfter (Row n es) w)
     row-keeps =
-        row-end-keeps (v .style .«dash_style») settled (waitsAfter (Row n es) w)
-        (swapped-keeps (gaveUp c es bare) c ws (waitsAfter (Row n es) w)
-        (walk-keeps c es bare (ending n w) (waitsAfter (Row n es) w) bare-waits (λ x. refl)))
+        waits-carried end (λ i. lines (source (gaveUp c es bare) c i)) (originAt (cellsFrom after 0 (length end))) (waitsAfter (Row n es) w) carries
+        (row-end-keeps (v .style .«dash_style») settled (λ i. lines (source (gaveUp c es bare) c i)) (waitsAfter (Row n es) w) settled-waits)
+      where
+        after : ℕ → ℕ
+        after = originAfter n (placeAt c es bare) (v .origins)
+
+        below : (i : ℕ) → isNamed (at end i) ≡ true → (t : Bool) → ltb i (length end) ≡ t → i < length end
+        below i h true q = ltb-true i (length end) q
+        below i h false q = absurd (false≢true (sym (ap isNamed (past-end end i (ltb-false i (length end) q))) ∙ h))
+
+        carries : (i : ℕ) → isNamed (at end i) ≡ true → originAt (cellsFrom after 0 (length end)) i ≡ lines (source (gaveUp c es bare) c i)
+        carries i h =
+            let q : isNamed (at settled i) ≡ true = sym (ap isNamed (at-row-end (v .style .«dash_style») settled i) ∙ named-kept (v .style .«dash_style») (at settled i)) ∙ h in
+            cells-inside after 0 (length end) i (below i h (ltb i (length end)) refl) ∙ rw q
 
     bare-stays : (i x : ℕ) → x ≢ n → Holds (v .columns) i x → Holds bare i x
     bare-stays i x h q =
@@ -339,7 +368,7 @@ module _ (v : View) (n : ℕ) (es : List Entry) where
     pub row-moves : (x i j : ℕ) → Holds (v .columns) i x → Holds end j x → x ≢ n
         → (OneEntry x es → c < i → j ≡ c) × ((OneEntry x es → c < i → ⊥) → j ≡ i)
     row-moves x i j a q h =
-        let m = settle-moves c es bare (ending n w) i x bare-waits (at-put-same (v .columns) c Empty) (bare-stays i x h a) in (
+        let m = settle-moves c es bare lines (ended n w) i x bare-waits (at-put-same (v .columns) c Empty) (bare-stays i x h a) in (
           λ o l. row-keeps .one j c x q (row-end-stays (v .style .«dash_style») settled c x (m .0 o l)),
           λ no-pull. row-keeps .one j i x q (row-end-stays (v .style .«dash_style») settled i x (m .1 no-pull)),
         )

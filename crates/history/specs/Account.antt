@@ -1,8 +1,10 @@
--- Document 01's account of the ids that wait ("Which ids wait"). It is fed the calls' arguments and whether each was refused, and nothing out of the columns.
+-- Document 01's account of the ids that wait ("Which ids wait"), extended by who first named each (02, R-3). It is fed the calls' arguments and whether each was refused, and nothing out of the columns.
 use Prim.Native.Nat.{ℕ}
 use mathlib.Core.Bool.{Bool, true, false, cond, not, _||_}
 use mathlib.Core.List.{List, [], _∷_}
 use lib.Dec.{eqb}
+use Rattle.column.specs.declared.Started.{Started}
+use Rattle.column.specs.declared.Started.the-variants.{NotWaiting, Unnamed, By}
 use Rattle.render.specs.declared.render.Ancestor.{Ancestor as Entry}
 use Rattle.render.specs.declared.render.Ancestor.the-variants.{Ancestor as Indirect, Parent as Direct, Anonymous}
 
@@ -21,11 +23,12 @@ abbrev pub isDrawn : Call → Bool → Bool
 isDrawn (Reserve n) refused = false
 isDrawn (Row n es) refused = not refused
 
--- how an id waits ("waits" in document 01)
+-- how an id waits ("waits" in document 01); as named, with "the node in whose accepted row its id was first named since, or in, that id's
+-- last accepted own row (or ever, without one)" (02, R-3)
 pub data Wait : Type 0 where
   Idle : Wait
   AsReserved : Wait
-  AsNamed : Wait
+  AsNamed : ℕ → Wait
 
 -- for each id, whether it waits and how
 abbrev pub Waiting : Type 0
@@ -50,14 +53,36 @@ named x (e ∷ es) = names x e || named x es
 abbrev pub unlessWaiting : Wait → Wait
 unlessWaiting Idle = AsReserved
 unlessWaiting AsReserved = AsReserved
-unlessWaiting AsNamed = AsNamed
+unlessWaiting (AsNamed m) = AsNamed m
 
--- "An accepted row first ends the wait of its node's id; then each id in its Ancestor and Parent entries waits as named, one that was only reserved too."
+-- "An accepted row first ends the wait of its node's id;"
+abbrev pub ended : ℕ → Waiting → Waiting
+ended n w x = cond (eqb x n) Idle (w x)
+
+-- who first named an id that a row of n names: who did while it waits as named, else n (02, R-3)
+abbrev pub starter : ℕ → Wait → ℕ
+starter n Idle = n
+starter n AsReserved = n
+starter n (AsNamed m) = m
+
+-- "then each id in its Ancestor and Parent entries waits as named, one that was only reserved too."
 abbrev pub waitsAfter : Call → Waiting → Waiting
 waitsAfter (Reserve n) w x = cond (eqb x n) (unlessWaiting (w x)) (w x)
-waitsAfter (Row n es) w x = cond (named x es) AsNamed (cond (eqb x n) Idle (w x))
+waitsAfter (Row n es) w x = cond (named x es) (AsNamed (starter n (ended n w x))) (ended n w x)
 
 -- "A refused call changes nothing."
 abbrev pub account : Call → Bool → Waiting → Waiting
 account k true w = w
 account k false w = waitsAfter k w
+
+-- whether an id "waits as named"
+abbrev pub Named : Wait → Type 0
+Named Idle = ⊥
+Named AsReserved = ⊥
+Named (AsNamed m) = Unit {0}
+
+-- "A query by id gives that node, none, or not waiting." (02, R-3)
+abbrev pub answerOf : Wait → Started
+answerOf Idle = NotWaiting
+answerOf AsReserved = Unnamed
+answerOf (AsNamed m) = By m

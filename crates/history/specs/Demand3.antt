@@ -11,10 +11,11 @@ use Rattle.column.specs.declared.Column.{Column}
 use Rattle.column.specs.declared.Column.the-variants.{Empty, Blocked, Reserved, Ancestor, Parent}
 use Rattle.column.specs.declared.Found.{Found}
 use Rattle.column.specs.declared.Found.the-variants.{At, Nothing}
-use Rattle.column.specs.Columns.{at, idOf}
+use Rattle.column.specs.declared.Started.{Started}
+use Rattle.column.specs.Columns.{at, idOf, originAt}
 use Rattle.render.specs.declared.render.Ancestor.{Ancestor as Entry}
 use Rattle.render.specs.Entries.{entryId}
-use Rattle.history.specs.Account.{Call, Reserve, Row, Wait, Idle, AsReserved, AsNamed, Waiting, callId, isDrawn, nobody, account}
+use Rattle.history.specs.Account.{Call, Reserve, Row, Wait, Idle, AsReserved, AsNamed, Waiting, callId, isDrawn, nobody, account, Named, answerOf}
 
 -- a cell of a head line or foot line: "solid, dashed or blank", or a glyph that is none of these
 pub data Stroke : Type 0 where
@@ -23,11 +24,13 @@ pub data Stroke : Type 0 where
   Solid : Stroke
   Other : Stroke
 
--- a machine: its states and their columns; the items of its lists, and the call as which an item counts ("A text call .. counts there as the row call with
+-- a machine: its states, their columns, what these carry and whom a query by id gives (02, R-3); the items of its lists, and the call as which an item counts ("A text call .. counts there as the row call with
 -- its node and entries"); whether it refuses an item, the state after it; and of an accepted row the node's column and the "head line" and "foot line" that are drawn
 pub record Machine : Type 1 where
   pub State : Type 0
   pub columns : State → List Column
+  pub origins : State → List ℕ
+  pub query : State → ℕ → Started
   pub Item : Type 0
   pub call : Item → Call
   pub refuses : State → Item → Bool
@@ -40,13 +43,13 @@ pub record Machine : Type 1 where
 abbrev pub Holds : List Column → ℕ → ℕ → Type 0
 Holds cs i x = idOf (at cs i) ≡ some x
 
--- how the id that a column holds waits
-abbrev pub waitOf : Column → Wait
-waitOf Empty = Idle
-waitOf Blocked = Idle
-waitOf (Reserved n) = AsReserved
-waitOf (Ancestor n) = AsNamed
-waitOf (Parent n) = AsNamed
+-- how the id waits that a column holds, and that carries o: "carries the node .., or a mark for none if only reserved" (02, R-3)
+abbrev pub waitOf : Column → ℕ → Wait
+waitOf Empty o = Idle
+waitOf Blocked o = Idle
+waitOf (Reserved n) o = AsReserved
+waitOf (Ancestor n) o = AsNamed o
+waitOf (Parent n) o = AsNamed o
 
 -- "with that id as its one parent entry"
 abbrev pub OneEntry : ℕ → List Entry → Type 0
@@ -95,6 +98,10 @@ module _ (M : Machine) where
   abbrev pub columnsAfter : M .State → M .Item → List Column
   columnsAfter s k = M .columns (M .after s k)
 
+  -- what they carry
+  abbrev pub originsAfter : M .State → M .Item → List ℕ
+  originsAfter s k = M .origins (M .after s k)
+
   -- the account of the ids that wait, fed the call as which the item counts and whether the item was refused
   abbrev pub waitingAfter : M .State → M .Item → Waiting → Waiting
   waitingAfter s k w = account (M .call k) (M .refuses s k) w
@@ -115,13 +122,17 @@ module _ (M : Machine) where
   abbrev pub Held : Clause
   Held s w a k = (x : ℕ) → waitingAfter s k w x ≢ Idle → (i : ℕ) × Holds (columnsAfter s k) i x
 
-  -- and each in a column waits, as the column says,
+  -- and each in a column waits, as the column and what it carries say,
   abbrev pub Waits : Clause
-  Waits s w a k = (i x : ℕ) → Holds (columnsAfter s k) i x → waitingAfter s k w x ≡ waitOf (at (columnsAfter s k) i)
+  Waits s w a k = (i x : ℕ) → Holds (columnsAfter s k) i x → waitingAfter s k w x ≡ waitOf (at (columnsAfter s k) i) (originAt (originsAfter s k) i)
 
   -- "one column each"
   abbrev pub One : Clause
   One s w a k = (i j x : ℕ) → Holds (columnsAfter s k) i x → Holds (columnsAfter s k) j x → i ≡ j
+
+  -- "A query by id gives that node, none, or not waiting.", as "The history account of waiting ids" says (02, R-3)
+  abbrev pub Answers : Clause
+  Answers s w a k = (x : ℕ) → M .query (M .after s k) x ≡ answerOf (waitingAfter s k w x)
 
   -- "no column is blocked"
   abbrev pub Unblocked : Clause
@@ -158,7 +169,7 @@ module _ (M : Machine) where
 
   -- an accepted row's foot line "has a stroke exactly in the columns of the ids that wait as named right after that row",
   abbrev pub Strokes : Clause
-  Strokes s w a k = draws s k ≡ true → (i : ℕ) → isStroke (cell (M .foot s k) i) ↔ ((x : ℕ) × Holds (columnsAfter s k) i x × (waitingAfter s k w x ≡ AsNamed))
+  Strokes s w a k = draws s k ≡ true → (i : ℕ) → isStroke (cell (M .foot s k) i) ↔ ((x : ℕ) × Holds (columnsAfter s k) i x × Named (waitingAfter s k w x))
 
   -- its cells are "solid, dashed or blank",
   abbrev pub Kinds : Clause
@@ -173,6 +184,7 @@ module _ (M : Machine) where
     pub held : Held s w a k
     pub waits : Waits s w a k
     pub one : One s w a k
+    pub answers : Answers s w a k
     pub unblocked : Unblocked s w a k
     pub full : Full s w a k
     pub changes : Changes s w a k

@@ -5,7 +5,9 @@ use mathlib.Core.Logic.{_≢_}
 use mathlib.Core.Bool.{Bool, true}
 use mathlib.Core.List.{List, [], _∷_}
 use lib.ListN.{length}
-use Rattle.history.specs.Demand3.{Other, cell, Machine, Clause, draws}
+use Rattle.column.specs.Columns.{originAt}
+use Rattle.history.specs.Account.{Named}
+use Rattle.history.specs.Demand3.{Other, cell, Machine, Clause, Moving, originsAfter, draws}
 
 module _ (M : Machine) where
   -- the state in which a list of calls leaves a machine
@@ -21,6 +23,10 @@ module _ (M : Machine) where
   -- "Two such lines are equal if each cell is of the same kind in both: solid, dashed or blank.": so are the cells of an accepted row's head line
   abbrev pub HeadKinds : Clause M
   HeadKinds s w a k = draws M s k ≡ true → (i : ℕ) → cell (M .head s k) i ≢ Other
+
+  -- "The id's move to another column carries it along." (02, R-3): whether it moves or stays, an id that waits as named carries what it did
+  abbrev pub Carried : Clause M
+  Carried s w a k = Moving M (λ x i j. Named (w x) → originAt (originsAfter M s k) j ≡ originAt (M .origins s) i) s w a k
 
   -- an accepted row's node is at most one past the count of columns: "an Empty placeholder is added first"
   abbrev pub NodeNear : Clause M

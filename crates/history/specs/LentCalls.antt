@@ -1,19 +1,21 @@
 -- Demand 3 of the lent calls: a list of calls that have run on one shaper, each as its contract says, and the machine of what they leave.
 use Prim.Native.Nat.{ℕ}
+use mathlib.Core.Path.{_≡_}
 use mathlib.Core.List.{List, [], _∷_}
 use Rattle.render.specs.declared.render.Entry.{Entry}
 use Rattle.render.specs.declared.types.RowShape.{RowShape}
+use Rattle.column.specs.declared.Started.{Started}
 use Rattle.shaper.specs.declared.Shaper.{Shaper}
-use Rattle.shaper.specs.Shaper.{viewOf}
+use Rattle.shaper.specs.Shaper.{viewOf, origin}
 use Rattle.row_shape.specs.Row.{noShape}
 use Rattle.glyphs.specs.declared.Renderer.{Renderer}
 use Rattle.output.specs.declared.TextState.{TextState}
 use Rattle.output.specs.Output.{textViewOf}
 use Rattle.lineage.specs.declared.ShapeAnswer.{ShapeAnswer}
 use Rattle.lineage.specs.declared.LengthAnswer.{LengthAnswer}
-use Rattle.lineage.specs.Promises.{ancestors, LentReserves, LentRows, LentTexts}
-use Rattle.history.specs.Account.{Reserve, Row}
-use Rattle.history.specs.Demand3.{Machine}
+use Rattle.lineage.specs.Promises.{ancestors, LentReserves, LentRows, LentTexts, LentOrigin}
+use Rattle.history.specs.Account.{Reserve, Row, answerOf}
+use Rattle.history.specs.Demand3.{Machine, Clause, waitingAfter}
 use Rattle.history.specs.Ours.{Item, Plain, Text, callOf, isRefusal, shapeOf, headLine, footLine}
 
 -- what is lent to a text call beside the shaper, and what it leaves and gives
@@ -71,12 +73,15 @@ lentShape s (ReserveRan n s′ r) = noShape
 lentShape s (RowRan n l s′ r) = r .shape
 lentShape s (TextRan a s′) = shapeOf (viewOf s) (Row (a .node) (ancestors (a .entries)))
 
--- the machine of what lent calls leave: its states are the shapers themselves, and what is seen of a call is what the call gave
+-- the machine of what lent calls leave: its states are the shapers themselves, and what is seen of a call is what the call gave; a query
+-- gives what `lineage::origin` promises
 abbrev pub lent : Renderer → Machine
 lent q =
     record {
       State = Shaper;
       columns = λ s. viewOf s .columns;
+      origins = λ s. viewOf s .origins;
+      query = λ s. origin (viewOf s);
       Item = LentCall;
       call = λ k. callOf (itemOf k);
       refuses = λ s k. isRefusal (number k);
@@ -85,3 +90,7 @@ lent q =
       head = λ s k. headLine q (lentShape s k);
       foot = λ s k. footLine q (lentShape s k);
     }
+
+-- whatever `lineage::origin` gives for an id on the shaper that a call leaves, as its contract says, is what the account says
+abbrev pub Queried : (q : Renderer) → Clause (lent q)
+Queried q s w a k = (x : ℕ) (r : Started) → LentOrigin (exit k) x r → r ≡ answerOf (waitingAfter (lent q) s k w x)

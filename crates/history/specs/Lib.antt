@@ -1,4 +1,5 @@
 pub mod Account
+pub mod Words
 pub mod Demand3
 pub mod Follows
 pub mod Ours

@@ -5,7 +5,7 @@ use mathlib.Core.List.{List, [], _∷_, map}
 use lib.Dec.{eqb}
 use Rattle.render.specs.declared.render.Ancestor.{Ancestor as Entry}
 use Rattle.render.specs.declared.types.RowShape.{RowShape}
-use Rattle.shaper.specs.Shaper.{View, reserve}
+use Rattle.shaper.specs.Shaper.{View, reserve, origin}
 use Rattle.row_shape.specs.Row.{noShape, row}
 use Rattle.glyphs.specs.declared.Renderer.{Renderer}
 use Rattle.glyphs.specs.declared.types.Choice.{Choice}
@@ -104,6 +104,8 @@ leaving left q =
     record {
       State = View;
       columns = λ v. v .columns;
+      origins = λ v. v .origins;
+      query = origin;
       Item = Item;
       call = callOf;
       refuses = refuses;

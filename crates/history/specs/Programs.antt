@@ -5,6 +5,7 @@ use mathlib.Core.Bool.{Bool, true, false, cond, not, _&&_}
 use mathlib.Core.List.{List, [], _∷_}
 use lib.ListN.{replicate}
 use Rattle.render.specs.declared.types.RowShape.{RowShape}
+use Rattle.shaper.specs.Shaper.{origin}
 use Rattle.render.specs.Mark.{isMark}
 use Rattle.glyphs.specs.declared.Renderer.{Renderer}
 use Rattle.glyphs.specs.declared.Renderer.the-variants.{Curved}
@@ -84,6 +85,8 @@ module _ (P : Program) where
       record {
         State = Running;
         columns = λ s. s .progress .view .columns;
+        origins = λ s. s .progress .view .origins;
+        query = λ s. origin (s .progress .view);
         Item = List ℕ;
         call = rowRead;
         refuses = λ s piece. not (stepOn (P .step) s piece .goesOn);

@@ -1,21 +1,26 @@
 -- Machines that demand 3 must rule out: ours with one thing wrong. Each breaks the clause named with it; where one is named, no other fails at the first call at
--- which anything does. They run in `oracle/demand3`, `farFromOwn` as `far_from_own`.
+-- which anything does. They run in `oracle/demand3`, `farFromOwn` as `far_from_own`. Where columns, the node's column or lines are wrong, each
+-- column carries what the true machine does for its id, and the query is the true machine's.
 use Prim.Native.Nat.{ℕ, _+_, _-_}
 use mathlib.Core.Bool.{cond, _&&_}
 use mathlib.Core.List.{List, [], _∷_, _++_, map, reverse}
+use mathlib.Core.Option.{Option, none, some}
 use lib.Dec.{eqb, ltb}
 use lib.ListN.{length}
+use Rattle.slices.specs.Lists.{putWith}
 use Rattle.column.specs.declared.Column.{Column}
 use Rattle.column.specs.declared.Column.the-variants.{Empty, Blocked, Reserved, Ancestor, Parent}
 use Rattle.column.specs.declared.Found.{Found}
 use Rattle.column.specs.declared.Found.the-variants.{At, Nothing}
-use Rattle.column.specs.Columns.{isEmpty, first, find, unblock, trim, reset, at, put}
+use Rattle.column.specs.declared.Started.{Started}
+use Rattle.column.specs.declared.Started.the-variants.{NotWaiting, Unnamed, By}
+use Rattle.column.specs.Columns.{idOf, isEmpty, first, find, unblock, trim, reset, at, put, originAt}
 use Rattle.render.specs.declared.render.Ancestor.{Ancestor as Entry}
-use Rattle.shaper.specs.Shaper.{View, isNothing, withColumns}
+use Rattle.shaper.specs.Shaper.{View, isNothing, withColumns, origin}
 use Rattle.placing.specs.Placing.{solidOnce, Placed, place}
 use Rattle.cells.specs.Cells.{cellsFrom}
 use Rattle.glyphs.specs.declared.Renderer.the-variants.{Curved}
-use Rattle.history.specs.Account.{Call, Reserve, Row, isDrawn, nobody}
+use Rattle.history.specs.Account.{Call, Reserve, Row, isDrawn, nobody, named}
 use Rattle.history.specs.Demand3.{Stroke, Blank, Dashed, Solid, Other, cell, overNode, Machine, nothingAbove, Clause, Each}
 use Rattle.history.specs.Ours.{Item, Plain, Text, refusesCall, afterCall, after, shapeOf, headLine, footLine, leaving}
 
@@ -25,7 +30,7 @@ Fails M P s ks = Each M P s nobody nothingAbove ks → ⊥
 
 -- `fresh`: a shaper that holds an id from the start
 abbrev pub stale : View → View
-stale v = withColumns v (Parent 77 ∷ [])
+stale v = withColumns v (Parent 77 ∷ []) (v .origins)
 
 -- ---- ours in parts, with lists of reserving and row calls alone
 
@@ -45,19 +50,32 @@ trueHead v k = headLine Curved (shapeOf v k)
 abbrev pub trueFoot : View → Call → List Stroke
 trueFoot v k = footLine Curved (shapeOf v k)
 
--- ours with other columns after accepted calls, another node's column, another head line and another foot line
+-- the node that a query gave, else another
+abbrev pub nodeOr : Started → ℕ → ℕ
+nodeOr NotWaiting o = o
+nodeOr Unnamed o = o
+nodeOr (By m) o = m
+
+-- what a column carries whose id carries what it does in the view v
+abbrev pub carriedBy : View → Option ℕ → ℕ
+carriedBy v none = 0
+carriedBy v (some x) = nodeOr (origin v x) 0
+
+-- ours with other columns after accepted calls, another node's column, another head line and another foot line; the states have the true view too
 abbrev pub withParts : (View → Call → List Column) → (View → Call → ℕ) → (View → Call → List Stroke) → (View → Call → List Stroke) → Machine
 withParts columns node head foot =
     record {
-      State = View;
-      columns = λ v. v .columns;
+      State = View × View;
+      columns = λ s. s .0 .columns;
+      origins = λ s. map (λ c. carriedBy (s .1) (idOf c)) (s .0 .columns);
+      query = λ s. origin (s .1);
       Item = Call;
       call = λ k. k;
-      refuses = refusesCall;
-      after = λ v k. cond (refusesCall v k) v (withColumns (afterCall v k) (columns v k));
-      node = node;
-      head = head;
-      foot = foot;
+      refuses = λ s k. refusesCall (s .0) k;
+      after = λ s k. cond (refusesCall (s .0) k) s (withColumns (afterCall (s .0) k) (columns (s .0) k) (s .0 .origins), afterCall (s .1) k);
+      node = λ s k. node (s .0) k;
+      head = λ s k. head (s .0) k;
+      foot = λ s k. foot (s .0) k;
     }
 
 -- the columns alone
@@ -240,6 +258,8 @@ garbling =
     record {
       State = View × List Stroke;
       columns = λ s. s .0 .columns;
+      origins = λ s. s .0 .origins;
+      query = λ s. origin (s .0);
       Item = Call;
       call = λ k. k;
       refuses = λ s k. refusesCall (s .0) k;
@@ -257,6 +277,72 @@ blankHeads = withHead (λ v k. [])
 abbrev pub dashedOverNode : Machine
 dashedOverNode = withHead (λ v k. map columnStroke (v .columns))
 
+-- ---- who started a line (02, R-3)
+
+-- ours with other origins after accepted rows, showing what the columns carry, and with another query
+abbrev pub withOrigins : (View → ℕ → List Entry → List ℕ) → (View → List ℕ) → (View → ℕ → Started) → Machine
+withOrigins left shown query =
+    record {
+      State = View;
+      columns = λ v. v .columns;
+      origins = shown;
+      query = query;
+      Item = Call;
+      call = λ k. k;
+      refuses = refusesCall;
+      after = λ v k. cond (refusesCall v k) v (withColumns (afterCall v k) (trueColumns v k) (originsLeft left v k));
+      node = trueNode;
+      head = trueHead;
+      foot = trueFoot;
+    }
+  where
+    originsLeft : (View → ℕ → List Entry → List ℕ) → View → Call → List ℕ
+    originsLeft f v (Reserve n) = afterCall v (Reserve n) .origins
+    originsLeft f v (Row n es) = f v n es
+
+-- what a query by id gives, and what the columns carry, as they are
+abbrev pub withOriginsAfter : (View → ℕ → List Entry → List ℕ) → Machine
+withOriginsAfter left = withOrigins left (λ v. v .origins) origin
+
+-- what the columns after a row carry, but another node for some ids, by the id and the node that it has
+abbrev pub originsBy : (ℕ → ℕ → ℕ) → View → List ℕ
+originsBy f v = cellsFrom (λ i. atId (idOf (at (v .columns) i)) (originAt (v .origins) i)) 0 (length (v .columns))
+  where
+    atId : Option ℕ → ℕ → ℕ
+    atId none o = o
+    atId (some x) o = f x o
+
+-- `waits` and `answers`: the latest row that names an id counts as its first
+abbrev pub latestNamer : Machine
+latestNamer = withOriginsAfter (λ v n es. originsBy (λ x o. cond (named x es) n o) (afterCall v (Row n es)))
+
+-- `waits` and `answers`: an id named in its own row keeps the node from before that row (as run, one named after it does, too)
+abbrev pub keptOverOwnRow : Machine
+keptOverOwnRow = withOriginsAfter (λ v n es. originsBy (λ x o. cond (eqb x n) (nodeOr (origin v n) o) o) (afterCall v (Row n es)))
+
+-- what the columns carry after a row, but that in a swap the node's column c keeps what it carried
+abbrev pub keptInSwap : Found → ℕ → List ℕ → List ℕ → List ℕ
+keptInSwap Nothing c os after = after
+keptInSwap (At p) c os after = putWith 0 after c (originAt os c)
+
+-- `waits` and `answers`: in a swap the id leaves its origin behind
+abbrev pub leftBehind : Machine
+leftBehind = withOriginsAfter (λ v n es. keptInSwap (place v n es .up) (place v n es .column) (v .origins) (afterCall v (Row n es) .origins))
+
+-- who started a line, but nobody where the id started it itself
+abbrev pub unlessItself : ℕ → Started → Started
+unlessItself x NotWaiting = NotWaiting
+unlessItself x Unnamed = Unnamed
+unlessItself x (By m) = cond (eqb x m) Unnamed (By m)
+
+-- `answers`: a query for an id that its own row named first gives none
+abbrev pub unnamedByItself : Machine
+unnamedByItself = withOrigins (λ v n es. afterCall v (Row n es) .origins) (λ v. v .origins) (λ v x. unlessItself x (origin v x))
+
+-- `waits`: the columns carry no node
+abbrev pub unkept : Machine
+unkept = withOrigins (λ v n es. afterCall v (Row n es) .origins) (λ v. []) origin
+
 -- ---- document 01's own, and a text call that counts for nothing
 
 -- `held` and others: "a row that leaves the columns untouched"
@@ -270,7 +356,7 @@ blankLater = withParts trueColumns trueNode (λ v k. cond (isNothing (v .previou
 -- the view after a call, but that a text call leaves the columns as they were
 abbrev pub afterUnlessText : View → Item → View
 afterUnlessText v (Plain k) = afterCall v k
-afterUnlessText v (Text a n es) = withColumns (after v (Text a n es)) (v .columns)
+afterUnlessText v (Text a n es) = withColumns (after v (Text a n es)) (v .columns) (v .origins)
 
 -- `held` and others: an accepted text call leaves the columns as they were
 abbrev pub textIgnored : Machine

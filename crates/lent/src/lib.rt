@@ -2,8 +2,9 @@
 ghost use Prim.Native.Nat.{_≤_, min};
 ghost use mathlib.Core.Path.{_≡_};
 ghost use lib.ListN.{take};
-ghost use Rattle.lineage.specs.Promises.{LentReserves, LentRows, LentPreview, LentWidth, LentTexts};
+ghost use Rattle.lineage.specs.Promises.{LentReserves, LentRows, LentPreview, LentWidth, LentOrigin, LentTexts};
 ghost use Rattle.lent.specs.Inner.{listLimit};
+use column::Started;
 use glyphs::Renderer;
 use output::TextState;
 use preview::PreviewAnswer;
@@ -95,6 +96,13 @@ pub fn width_on(
     ensures { λ r. ⌜ LentWidth shaper node (take count list) r ⌝ }
 {
     width_with(shaper, node, list, taken(count))
+}
+
+// Who started the line of an id, on a shaper of its own.
+pub fn origin_on(shaper: Shaper, node: u32) -> Started
+    ensures { λ r. ⌜ LentOrigin shaper node r ⌝ }
+{
+    lineage::origin(&shaper, node)
 }
 
 // The text call on a shaper and a text state of its own and the first entries of a list.

@@ -19,6 +19,8 @@ use denote.Struct.Laws as LL
 use denote.Enum.Enum as E
 use denote.Enum.Declared as ED
 use denote.Enum.Laws as EL
+use Rattle.column.proofs.Started as T′
+use Rattle.column.proofs.Started.Laws as T″
 use Rattle.preview.proofs.PreviewAnswer as P
 use Rattle.preview.proofs.PreviewAnswer.Laws as P′
 use Rattle.width.proofs.NewNode as N
@@ -79,7 +81,7 @@ last N x = subst (λ (e : Exit (N .row .Denot)). Last e x) (sym (N .still)) tt
 pub silent : (N : Datum) (x : N .row .Denot) (w : Last (N .row .exit yes) x) → left (N .row .exit yes) x w ≡ ftrue
 silent N x = subst (λ (e : Exit (N .row .Denot)). (w : Last e x) → left e x w ≡ ftrue) (sym (N .still)) (λ w. refl)
 
--- ---- what `preview` and `width` take and give
+-- ---- what `preview`, `width` and `origin` take and give
 abbrev pub node-id : Datum
 node-id = number w32
 
@@ -91,3 +93,6 @@ new-node = enum N.the-type N′.the-laws tt N′.the-plain N′.the-copy
 
 abbrev pub width-answer : Datum
 width-answer = struct R.the-type R′.the-laws R′.the-plain R′.the-copy
+
+abbrev pub started : Datum
+started = enum T′.the-type T″.the-laws tt T″.the-plain T″.the-copy

@@ -12,8 +12,8 @@ use Rattle.lineage.specs.declared.ShapeAnswer.{ShapeAnswer}
 use Rattle.lineage.specs.Promises.{LentPreview, LentRows}
 
 -- "It equals the row call made on a copy" (02, R-1): the row call made next, on the shaper that was previewed and is as it was, gives the
--- refusal, node column and width that the preview p gave, and leaves the columns that it showed
+-- refusal, node column and width that the preview p gave, and leaves the columns that it showed, with what they carry
 pub preview-then-row : (s s′ : Shaper) (n : ℕ) (l : List Entry) (p : PreviewAnswer) (r : ShapeAnswer)
     → LentPreview s n l p → LentRows s n l s′ r
-    → previewReplyOf p ≡ record { refusal = r .refusal; column = r .shape .«node_column»; width = r .shape .width; columns = viewOf s′ .columns }
+    → previewReplyOf p ≡ record { refusal = r .refusal; column = r .shape .«node_column»; width = r .shape .width; columns = viewOf s′ .columns; origins = viewOf s′ .origins }
 preview-then-row s s′ n l p r h k = h .reply ∙ sym (ap previewOf (k .reply))

@@ -3,13 +3,14 @@ use Prim.Native.Nat.{ℕ, _≤_}
 use mathlib.Core.Path.{_≡_}
 use mathlib.Core.Bool.{false}
 use mathlib.Core.List.{List, map}
+use Rattle.column.specs.declared.Started.{Started}
 use Rattle.column.specs.Columns.{columnLimit, SpareEmpty}
 use Rattle.render.specs.declared.render.Ancestor.{Ancestor}
 use Rattle.render.specs.declared.render.Entry.{Entry}
 use Rattle.render.specs.declared.render.Entries.{Entries}
 use Rattle.render.specs.Entries.{listed, capped}
 use Rattle.shaper.specs.declared.Shaper.{Shaper}
-use Rattle.shaper.specs.Shaper.{viewOf, Reserves}
+use Rattle.shaper.specs.Shaper.{viewOf, origin, Reserves}
 use Rattle.row_shape.specs.Row.{RowReply, row}
 use Rattle.preview.specs.declared.PreviewAnswer.{PreviewAnswer}
 use Rattle.preview.specs.Promises.{Previews}
@@ -55,6 +56,10 @@ LentPreview s n l r = Previews s n (ancestors l) r
 -- the width call gives what the definition says at the list itself
 abbrev pub LentWidth : Shaper → NewNode → List Entry → WidthAnswer → Type 0
 LentWidth s n l r = r ≡ width (viewOf s) n (ancestors l)
+
+-- the query gives what the definition says
+abbrev pub LentOrigin : Shaper → ℕ → Started → Type 0
+LentOrigin s n r = r ≡ origin (viewOf s) n
 
 -- the text call gives what the definition says at the list itself, t the text state at entry and t′ at exit, out the output at entry and
 -- out′ at exit; a refusal leaves both structs and every output byte as they were; else the raw count is at most 64, the slots past it are

@@ -1,6 +1,6 @@
 // The public calls: reserving, row, preview, width and text in lent forms, each thin over its by-value core; the others are passed on as they are.
 ghost use Rattle.row_shape.specs.Promises.{Rows};
-ghost use Rattle.lineage.specs.Promises.{Copies, LentReserves, LentRows, LentPreview, LentWidth, LentTexts};
+ghost use Rattle.lineage.specs.Promises.{Copies, LentReserves, LentRows, LentPreview, LentWidth, LentOrigin, LentTexts};
 use render::Entries;
 use row_shape::next_row_shape;
 use text::write_next_text;
@@ -9,6 +9,7 @@ use text::write_next_text;
 pub use column::Column;
 pub use column::Found;
 pub use column::Slot;
+pub use column::Started;
 pub use render::DashStyle;
 pub use render::LinkLinePlacement;
 pub use render::Options;
@@ -123,6 +124,13 @@ pub fn width(shaper: &Shaper, node: NewNode, entries: &[Entry]) -> WidthAnswer
 {
     let copied = copy_entries(entries);
     width::width(*shaper, node, copied)
+}
+
+// Who started the line of an id on a lent shaper.
+pub fn origin(shaper: &Shaper, node: u32) -> Started
+    ensures { λ r. ⌜ LentOrigin (now (shaper .entry)) node r ⌝ }
+{
+    shaper.origin(node)
 }
 
 // The text call on a lent shaper, a lent text state, a lent list of parent entries, a lent message and the output.

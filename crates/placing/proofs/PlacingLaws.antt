@@ -2,7 +2,7 @@
 -- entries on slots.
 use Prim.Native.Nat.{ℕ, zero, suc, _+_, _≤_, _<_, min, max}
 use mathlib.Core.Path.{_≡_, refl, ap, _∙_, sym}
-use mathlib.Core.Bool.{Bool, true, false, cond, _&&_, _||_}
+use mathlib.Core.Bool.{Bool, true, false, cond, _&&_, _||_, false≢true}
 use mathlib.Core.List.{List, [], _∷_, map}
 use native.Mathlib.Numerals.{add-one}
 use native.Mathlib.Omega.{arith}
@@ -11,14 +11,14 @@ use lib.ListN.{length, getD, take, drop, set, replicate, length-set, drop-of-len
 use lib.Seq.{drop-cons, take-set-le, getD-set-same, getD-set-other}
 use borrow.Author.Tests.{ltb-true, ltb-false, eqb-true, eqb-false}
 use Rattle.column.specs.declared.Column.{Column}
-use Rattle.column.specs.declared.Column.the-variants.{Empty, Blocked}
+use Rattle.column.specs.declared.Column.the-variants.{Empty, Blocked, Reserved, Ancestor, Parent}
 use Rattle.column.specs.declared.Found.{Found}
 use Rattle.column.specs.declared.Found.the-variants.{At, Nothing}
 use Rattle.column.specs.declared.Slot.{Slot}
-use Rattle.column.specs.Columns.{columnLimit, isEmpty, first, findEmpty, orElse, merge, at, put, live, emptySlot}
+use Rattle.column.specs.Columns.{columnLimit, isEmpty, isNamed, first, findEmpty, orElse, merge, at, put, live, origins, originAt, emptySlot}
 use Rattle.slices.proofs.Front.{length-front, front-getD, front-set}
-use Rattle.column.proofs.Laws.{columnOf as slotColumn, first-below, live-put, put-set}
-use Rattle.column.proofs.Positions.{at-put-same, at-put-other, length-put, put-skip, at-live}
+use Rattle.column.proofs.Laws.{columnOf as slotColumn, first-below, live-at, origins-at, live-put, put-set}
+use Rattle.column.proofs.Positions.{at-put-same, at-put-other, length-put, put-skip, at-live, past-end}
 use Rattle.render.specs.declared.render.Ancestor.{Ancestor as Entry}
 use Rattle.render.specs.declared.render.Entry.{Entry as Entry₁}
 use Rattle.render.specs.declared.render.Ancestor.the-variants.{Ancestor as Indirect, Parent as Direct, Anonymous}
@@ -28,7 +28,7 @@ use Rattle.links.specs.declared.Drawn.the-variants as drawn
 use Rattle.links.specs.declared.ParentColumn.{ParentColumn}
 use Rattle.links.specs.Links.{drawnBy}
 use Rattle.links.specs.Inner.{nobody, parentOf, kindAt}
-use Rattle.placing.specs.Placing.{columnOf, heldBy, parentColumn, enter, walk, Met, Nobody, By, kindOf, metBy}
+use Rattle.placing.specs.Placing.{columnOf, heldBy, parentColumn, enter, walk, Met, Nobody, By, kindOf, metBy, lineOrigin}
 use Rattle.placing.specs.Inner.{holdsEntry, entered, columnBefore}
 
 none-held : (cs : List Column) → first (holdsEntry Anonymous) cs ≡ Nothing
@@ -85,6 +85,11 @@ module _ (c : ℕ) (e : Entry) (cs : List Column) where
 pub walk-more : (c : ℕ) (es : List Entry) (cs : List Column) → length cs ≤ length (walk c es cs)
 walk-more c [] cs = omega arith
 walk-more c (e ∷ es) cs = omega (arith, walk-more c es (enter c e cs), length-put cs (parentColumn c e cs) (merge (at cs (parentColumn c e cs)) (columnOf e)))
+
+-- what the columns carry on the way, in a row of x: os is what the columns bs carried before the entries
+pub record Carrying (x : ℕ) (bs : List Column) (os : List ℕ) (slots : List Slot) (count : ℕ) : Type 0 where
+  pub origin : (i : ℕ) → isNamed (at (live count slots) i) ≡ true → (getD slots i emptySlot) .origin ≡ lineOrigin x bs os i
+  pub stays : (i : ℕ) → isNamed (at bs i) ≡ true → isNamed (at (live count slots) i) ≡ true
 
 -- ---- the node's column Empty
 
@@ -153,6 +158,29 @@ module _ (l : List Slot) (n c : ℕ) (long : length l ≡ columnLimit) (few : n 
         go : (b : Bool) → ltb c n ≡ b → live m opened ≡ put cs c Empty
         go true q = inside (ltb-true c n q)
         go false q = behind (ltb-false c n q)
+
+    -- what the columns carry before the entries
+    pub opened-carries : (x : ℕ) (os : List ℕ) → os ≡ origins n l → Carrying x (put cs c Empty) os opened m
+    opened-carries x os o = record { origin = λ i h. carries i (sym (ap (λ (y : List Column). isNamed (at y i)) opened-is) ∙ h); stays = λ i h. ap (λ (y : List Column). isNamed (at y i)) opened-is ∙ h }
+      where
+        not-node : (i : ℕ) → isNamed (at (put cs c Empty) i) ≡ true → i ≡ c → ⊥
+        not-node i h e =
+            let z : at (put cs c Empty) i ≡ Empty = rw e (at-put-same cs c Empty) in
+            false≢true (sym (ap isNamed z) ∙ h)
+
+        carries : (i : ℕ) → isNamed (at (put cs c Empty) i) ≡ true → (getD opened i emptySlot) .origin ≡ lineOrigin x (put cs c Empty) os i
+        carries i h =
+            let e : i ≡ c → ⊥ = not-node i h in
+            let z : isNamed (at cs i) ≡ true = sym (ap isNamed (at-put-other cs c Empty i e)) ∙ h in
+            let y : i < n = below i z (ltb i n) refl in
+            let w : i < length l = omega (arith, long) in
+            let d : isNamed ((getD l i emptySlot) .column) ≡ true = sym (ap isNamed (live-at n l i y w)) ∙ z in
+            ap (λ (s : Slot). s .origin) (getD-set-other (set l k emptySlot) c i emptySlot emptySlot e ∙ getD-set-other l k i emptySlot emptySlot (λ q. omega (arith, q)))
+            ∙ rw (h, o, origins-at n l i y w, d)
+          where
+            below : (i : ℕ) → isNamed (at cs i) ≡ true → (b : Bool) → ltb i n ≡ b → i < n
+            below i z true q = ltb-true i n q
+            below i z false q = absurd (false≢true (sym (ap isNamed (past-end cs i (rw count-is (ltb-false i n q)))) ∙ z))
 
   -- what stood in a column before the entries
   pub before-is : (i : ℕ) → i < columnLimit → columnBefore (getD l i emptySlot) i n c ≡ at (put cs c Empty) i
@@ -239,6 +267,22 @@ pub record Gone (bs : List Column) (c : ℕ) (es : List Entry) (slots : List Slo
   pub last-is : last ≡ lastColumn c es bs 0
   pub said-is : said ≡ anyOf isAnonymous es
 
+-- merging leaves a named column named
+pub merge-stays : (c d : Column) → isNamed c ≡ true → isNamed (merge c d) ≡ true
+merge-stays Empty d h = absurd (false≢true h)
+merge-stays Blocked d h = absurd (false≢true h)
+merge-stays (Reserved n) d h = absurd (false≢true h)
+merge-stays (Ancestor n) Empty h = refl
+merge-stays (Ancestor n) Blocked h = refl
+merge-stays (Ancestor n) (Reserved m) h = refl
+merge-stays (Ancestor n) (Ancestor m) h = refl
+merge-stays (Ancestor n) (Parent m) h = refl
+merge-stays (Parent n) Empty h = refl
+merge-stays (Parent n) Blocked h = refl
+merge-stays (Parent n) (Reserved m) h = refl
+merge-stays (Parent n) (Ancestor m) h = refl
+merge-stays (Parent n) (Parent m) h = refl
+
 module _ (bs : List Column) (c : ℕ) (es : List Entry) where
   pub going-start : (slots : List Slot) (count : ℕ) (parents : List ParentColumn) → length slots ≡ columnLimit → count ≤ columnLimit → live count slots ≡ bs
       → parents ≡ replicate columnLimit nobody → Going bs c es 0 slots count parents 0 false
@@ -269,7 +313,7 @@ module _ (bs : List Column) (c : ℕ) (es : List Entry) where
           rw (← w) (omega (arith, walk-more c (drop (suc i) es) (enter c e now), length-put now (parentColumn c e now) (merge (at now (parentColumn c e now)) (columnOf e))))
 
       module _ (h : index < columnLimit) (m : ℕ) (q : m ≡ min (max count (index + 1)) columnLimit) (s : Slot)
-          (f : s ≡ entered (getD slots index emptySlot) index count e) (p : ParentColumn) (o : p ≡ parentOf e) (x : Bool) (y : x ≡ isAnonymous e) where
+          (x : ℕ) (f : s ≡ entered (getD slots index emptySlot) index count e x) (p : ParentColumn) (o : p ≡ parentOf e) (t : Bool) (y : t ≡ isAnonymous e) where
         a : index < length slots
         a = rw (g .long) h
 
@@ -279,24 +323,63 @@ module _ (bs : List Column) (c : ℕ) (es : List Entry) where
         next : live m (set slots index s) ≡ enter c e now
         next = live-put count index m slots s a near r ∙ rw (f, ← at-live count slots index a, k)
 
-        pub going-next : Going bs c es (i + 1) (set slots index s) m (set parents index p) index (said || x)
+        pub going-next : Going bs c es (i + 1) (set slots index s) m (set parents index p) index (said || t)
         going-next =
             record {
               long = length-set slots index s ∙ g .long;
               wide = length-set parents index p ∙ g .wide;
               fits = omega arith;
               within = h;
-              columns = rw (add-one i, next) (ap (λ (t : List Entry). walk c t now) (sym d) ∙ g .columns);
+              columns = rw (add-one i, next) (ap (λ (l : List Entry). walk c l now) (sym d) ∙ g .columns);
               kinds = λ j.
                   rw (add-one i, next, o, kind-set parents index j e (rw (g .wide) h), k)
-                  (ap (λ (t : List Entry). kindBy j c t now (kindAt parents j)) (sym d) ∙ g .kinds j);
-              last-left = rw (add-one i, next, k) (ap (λ (t : List Entry). lastColumn c t now last) (sym d) ∙ g .last-left);
+                  (ap (λ (l : List Entry). kindBy j c l now (kindAt parents j)) (sym d) ∙ g .kinds j);
+              last-left = rw (add-one i, next, k) (ap (λ (l : List Entry). lastColumn c l now last) (sym d) ∙ g .last-left);
               said-left =
                   rw (add-one i, y)
                   (or-assoc said (isAnonymous e) (anyOf isAnonymous (drop (suc i) es))
-                  ∙ ap (λ (t : List Entry). said || anyOf isAnonymous t) (sym d)
+                  ∙ ap (λ (l : List Entry). said || anyOf isAnonymous l) (sym d)
                   ∙ g .said-left);
             }
+
+        -- the entry's column carries the row's node, unless it was named before
+        pub carrying-next : (os : List ℕ) → Carrying x bs os slots count → Carrying x bs os (set slots index s) m
+        carrying-next os w = record { origin = λ j. here j (eqb j index) refl; stays = λ j. there j (eqb j index) refl }
+          where
+            old : Column
+            old = at now index
+
+            slot : Slot
+            slot = getD slots index emptySlot
+
+            not-before : (v : Bool) → isNamed old ≡ false → isNamed (at bs index) ≡ v → cond v (originAt os index) x ≡ x
+            not-before true z u = absurd (false≢true (sym z ∙ w .stays index u))
+            not-before false z u = refl
+
+            kept : (v : Bool) → isNamed old ≡ v → cond v (slot .origin) x ≡ lineOrigin x bs os index
+            kept true z = w .origin index z
+            kept false z = sym (not-before (isNamed (at bs index)) z refl)
+
+            entered-origin : s .origin ≡ lineOrigin x bs os index
+            entered-origin = ap (λ (z : Slot). z .origin) f ∙ rw (← at-live count slots index a) (kept (isNamed old) refl)
+
+            entered-column : at (live m (set slots index s)) index ≡ merge old (columnOf e)
+            entered-column = rw (next, ← k) (at-put-same now index (merge old (columnOf e)))
+
+            other-column : (j : ℕ) → (j ≡ index → ⊥) → at (live m (set slots index s)) j ≡ at now j
+            other-column j n = rw (next, ← k) (at-put-other now index (merge old (columnOf e)) j n)
+
+            here : (j : ℕ) (b : Bool) → eqb j index ≡ b → isNamed (at (live m (set slots index s)) j) ≡ true → (getD (set slots index s) j emptySlot) .origin ≡ lineOrigin x bs os j
+            here j true z u = let v : j ≡ index = eqb-true j index z in rw v (ap (λ (y : Slot). y .origin) (getD-set-same slots index s emptySlot a) ∙ entered-origin)
+            here j false z u =
+                let v : j ≡ index → ⊥ = eqb-false j index z in
+                ap (λ (y : Slot). y .origin) (getD-set-other slots index j s emptySlot v) ∙ w .origin j (sym (ap isNamed (other-column j v)) ∙ u)
+
+            there : (j : ℕ) (b : Bool) → eqb j index ≡ b → isNamed (at bs j) ≡ true → isNamed (at (live m (set slots index s)) j) ≡ true
+            there j true z u =
+                let v : j ≡ index = eqb-true j index z in
+                rw v (ap isNamed entered-column ∙ merge-stays old (columnOf e) (w .stays index (sym (ap (λ (y : ℕ). isNamed (at bs y)) v) ∙ u)))
+            there j false z u = ap isNamed (other-column j (eqb-false j index z)) ∙ w .stays j u
 
     pub going-end : drop i es ≡ [] → Gone bs c es slots count parents last said
     going-end d =

@@ -1,30 +1,30 @@
 -- What the swap gives, on slots and on who draws, in the words of the definitions in specs/Placing.antt.
 use Prim.Native.Nat.{ℕ, zero, suc, _<_}
 use mathlib.Core.Path.{_≡_, refl, ap, _∙_, sym}
-use mathlib.Core.Bool.{Bool, true, false, cond, _&&_}
+use mathlib.Core.Bool.{Bool, true, false, cond, _&&_, false≢true}
 use mathlib.Core.List.{List, [], _∷_}
 use native.Mathlib.Omega.{arith}
 use lib.Dec.{ltb, eqb}
 use lib.ListN.{length, getD, set, length-set}
 use lib.Seq.{getD-set-same, getD-set-other}
-use borrow.Author.Tests.{ne-eqb, eqb-true, eqb-false}
+use borrow.Author.Tests.{ltb-true, ne-eqb, eqb-true, eqb-false}
 use Rattle.column.specs.declared.Column.{Column}
 use Rattle.column.specs.declared.Column.the-variants.{Empty}
 use Rattle.column.specs.declared.Found.{Found}
 use Rattle.column.specs.declared.Found.the-variants.{At, Nothing}
 use Rattle.column.specs.declared.Slot.{Slot}
-use Rattle.column.specs.Columns.{columnLimit, orElse, merge, at, put, live, emptySlot}
+use Rattle.column.specs.Columns.{columnLimit, isNamed, orElse, merge, at, put, live, emptySlot}
 use Rattle.slices.proofs.Front.{length-front, front-set}
 use Rattle.column.proofs.Laws.{columnOf as slotColumn, live-at, put-set}
-use Rattle.column.proofs.Positions.{at-put-other, length-put}
+use Rattle.column.proofs.Positions.{at-put-same, at-put-other, length-put}
 use Rattle.render.specs.declared.render.Ancestor.{Ancestor as Entry}
 use Rattle.render.specs.declared.render.Ancestor.the-variants.{Ancestor as Indirect, Parent as Direct, Anonymous}
 use Rattle.links.specs.declared.Drawn.the-variants as drawn
 use Rattle.links.specs.declared.ParentColumn.{ParentColumn}
 use Rattle.links.specs.Links.{isAt}
 use Rattle.links.specs.Inner.{nobody, kindAt}
-use Rattle.placing.specs.Placing.{columnOf, parentColumn, enter, walk, gaveUp, swapped, Met, Nobody, By, kindOf, metBy, drawsAt}
-use Rattle.placing.proofs.PlacingLaws.{walk-more, Gone}
+use Rattle.placing.specs.Placing.{columnOf, parentColumn, enter, walk, gaveUp, swapped, Met, Nobody, By, kindOf, metBy, drawsAt, source, lineOrigin}
+use Rattle.placing.proofs.PlacingLaws.{walk-more, Gone, Carrying}
 
 -- a value stored where it stands changes nothing, twice
 set-back : {A : Type 0} (l : List A) (i : ℕ) (d : A) → set (set l i (getD l i d)) i (getD l i d) ≡ l
@@ -47,6 +47,32 @@ up-inside c (e ∷ []) bs h = go (ltb c (parentColumn c e bs))
     go true = omega (arith, length-put bs k (merge (at bs k) (columnOf e)))
     go false = omega (arith, length-put bs k (merge (at bs k) (columnOf e)))
 up-inside c (e ∷ f ∷ es) bs h = omega (arith, walk-more c (e ∷ f ∷ es) bs)
+
+-- a column that is given up lies right of the node's
+up-right : (c : ℕ) (es : List Entry) (bs : List Column) (p : ℕ) → gaveUp c es bs ≡ At p → c < p
+up-right c [] bs p u = let z : _≡_ {A = ℕ} 0 1 = cc in absurd (omega arith)
+up-right c (e ∷ []) bs p u = go (ltb c (parentColumn c e bs)) refl u
+  where
+    go : (b : Bool) → ltb c (parentColumn c e bs) ≡ b → cond b (At (parentColumn c e bs)) Nothing ≡ At p → c < p
+    go true q z = let y : parentColumn c e bs ≡ p = cc in omega (arith, ltb-true c (parentColumn c e bs) q)
+    go false q z = let y : _≡_ {A = ℕ} 0 1 = cc in absurd (omega arith)
+up-right c (e ∷ f ∷ es) bs p u = let z : _≡_ {A = ℕ} 0 1 = cc in absurd (omega arith)
+
+-- in a swap the node's column is Empty after the walk
+pub left-empty : (c : ℕ) (es : List Entry) (bs : List Column) (p : ℕ) → gaveUp c es bs ≡ At p → at bs c ≡ Empty → at (walk c es bs) c ≡ Empty
+left-empty c [] bs p u h = h
+left-empty c (e ∷ []) bs p u h = at-put-other bs k (merge (at bs k) (columnOf e)) c beside ∙ h
+  where
+    k : ℕ
+    k = parentColumn c e bs
+
+    given : (b : Bool) → cond b (At k) Nothing ≡ At p → k ≡ p
+    given true z = cc
+    given false z = let y : _≡_ {A = ℕ} 0 1 = cc in absurd (omega arith)
+
+    beside : c ≡ k → ⊥
+    beside z = omega (arith, z, given (ltb c k) u, up-right c (e ∷ []) bs p u)
+left-empty c (e ∷ f ∷ es) bs p u h = let z : _≡_ {A = ℕ} 0 1 = cc in absurd (omega arith)
 
 -- the row's single entry, by the code's test
 pub gave-up : (c : ℕ) (es : List Entry) (bs : List Column) (n last : ℕ) (r : Found) → n ≡ length es
@@ -195,6 +221,70 @@ walk-kept i c (e ∷ es) cs h = go (eqb i (parentColumn c e cs)) refl (walk-kept
     go : (b : Bool) → eqb i (parentColumn c e cs) ≡ b → (metBy i c es (enter c e cs) Nobody ≡ Nobody → at (enter c e cs) i ≡ at (walk c es (enter c e cs)) i) → at cs i ≡ at (walk c es (enter c e cs)) i
     go true q r = absurd (some-draws i c es (enter c e cs) e (rw q at h))
     go false q r = sym (at-put-other cs (parentColumn c e cs) (merge (at cs (parentColumn c e cs)) (columnOf e)) i (eqb-false i (parentColumn c e cs) q)) ∙ r (rw q at h)
+
+-- after the swap too each named column carries its line's origin; x is the row's node, os what the columns before the entries carried
+module _ (bs : List Column) (c : ℕ) (es : List Entry) (slots : List Slot) (count : ℕ) (parents : List ParentColumn) (last : ℕ) (said : Bool)
+    (g : Gone bs c es slots count parents last said) (inside : c < length bs) (bare : at bs c ≡ Empty) (x : ℕ) (os : List ℕ) (w : Carrying x bs os slots count) where
+  abbrev swap-up : Found
+  swap-up = gaveUp c es bs
+
+  abbrev walked : List Column
+  walked = walk c es bs
+
+  abbrev after : List Slot
+  after = moved bs c es slots count parents last said g inside
+
+  -- a slot after the walk
+  walked-carries : (i : ℕ) → isNamed (at walked i) ≡ true → (getD slots i emptySlot) .origin ≡ lineOrigin x bs os i
+  walked-carries i h = w .origin i (ap (λ (y : List Column). isNamed (at y i)) (g .columns) ∙ h)
+
+  pub moved-carries : (i : ℕ) → isNamed (at (swapped swap-up c walked) i) ≡ true → (getD after i emptySlot) .origin ≡ lineOrigin x bs os (source swap-up c i)
+  moved-carries i h = go swap-up refl h
+    where
+      long : length slots ≡ columnLimit
+      long = g .long
+
+      node-within : c < length slots
+      node-within = rw long (omega (arith, walk-more c es bs, width-is bs c es slots count parents last said g inside, g .fits))
+
+      go : (f : Found) → swap-up ≡ f → isNamed (at (swapped f c walked) i) ≡ true → (getD after i emptySlot) .origin ≡ lineOrigin x bs os (source f c i)
+      go Nothing u k =
+          let o : orElse swap-up c ≡ c = ap (λ (y : Found). orElse y c) u in
+          let s : after ≡ slots = rw o (set-back slots c emptySlot) in
+          ap (λ (y : List Slot). (getD y i emptySlot) .origin) s ∙ walked-carries i k
+      go (At p) u k = at-place (eqb i c) refl (eqb i p) refl
+        where
+          o : orElse swap-up c ≡ p
+          o = ap (λ (y : Found). orElse y c) u
+
+          right : c < p
+          right = up-right c es bs p u
+
+          p-within : p < length slots
+          p-within = rw long (omega (arith, o, other-inside bs c es slots count parents last said g inside, width-is bs c es slots count parents last said g inside, g .fits))
+
+          after-is : after ≡ set (set slots c (getD slots p emptySlot)) p (getD slots c emptySlot)
+          after-is = rw o
+
+          at-place : (a : Bool) → eqb i c ≡ a → (b : Bool) → eqb i p ≡ b → (getD after i emptySlot) .origin ≡ lineOrigin x bs os (source (At p) c i)
+          at-place true q b r =
+              let e : i ≡ c = eqb-true i c q in
+              let n : c ≡ p → ⊥ = λ z. omega (arith, z, right) in
+              let s : at (swapped (At p) c walked) c ≡ at walked p = at-put-other (put walked c (at walked p)) p (at walked c) c n ∙ at-put-same walked c (at walked p) in
+              rw (q, after-is)
+              (rw e (ap (λ (y : Slot). y .origin) (getD-set-other (set slots c (getD slots p emptySlot)) p c (getD slots c emptySlot) emptySlot n ∙ getD-set-same slots c (getD slots p emptySlot) emptySlot node-within))
+              ∙ walked-carries p (sym (ap isNamed s) ∙ (ap (λ (y : ℕ). isNamed (at (swapped (At p) c walked) y)) (sym e) ∙ k)))
+          at-place false q true r =
+              let e : i ≡ p = eqb-true i p r in
+              let s : at (swapped (At p) c walked) p ≡ at walked c = at-put-same (put walked c (at walked p)) p (at walked c) in
+              absurd (false≢true (sym (ap isNamed (s ∙ left-empty c es bs p u bare)) ∙ (ap (λ (y : ℕ). isNamed (at (swapped (At p) c walked) y)) (sym e) ∙ k)))
+          at-place false q false r =
+              let n : i ≡ c → ⊥ = eqb-false i c q in
+              let m : i ≡ p → ⊥ = eqb-false i p r in
+              let s : at (swapped (At p) c walked) i ≡ at walked i = at-put-other (put walked c (at walked p)) p (at walked c) i m ∙ at-put-other walked c (at walked p) i n in
+              rw (q, after-is)
+              (ap (λ (y : Slot). y .origin) (getD-set-other (set slots c (getD slots p emptySlot)) p i (getD slots c emptySlot) emptySlot m ∙ getD-set-other slots c i (getD slots p emptySlot) emptySlot n)
+              ∙ walked-carries i (sym (ap isNamed s) ∙ k))
 
 -- neither the entries nor the swap change a column in which nobody draws, but for the node's and the one given up
 pub settled-kept : (i c : ℕ) (es : List Entry) (cs : List Column) → drawsAt (gaveUp c es cs) c es cs i ≡ Nobody → eqb i c ≡ false → isAt (gaveUp c es cs) i ≡ false

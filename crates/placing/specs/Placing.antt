@@ -8,7 +8,7 @@ use Rattle.column.specs.declared.Column.{Column}
 use Rattle.column.specs.declared.Column.the-variants.{Empty, Blocked, Ancestor, Parent}
 use Rattle.column.specs.declared.Found.{Found}
 use Rattle.column.specs.declared.Found.the-variants.{At, Nothing}
-use Rattle.column.specs.Columns.{find, findEmpty, orElse, merge, direct, at, put}
+use Rattle.column.specs.Columns.{isNamed, find, findEmpty, orElse, merge, direct, at, put, counted, originAt}
 use Rattle.render.specs.declared.render.Ancestor.{Ancestor as Entry}
 use Rattle.render.specs.declared.render.Ancestor.the-variants.{Ancestor as Indirect, Parent as Direct, Anonymous}
 use Rattle.render.specs.declared.types.DashStyle.{DashStyle}
@@ -107,3 +107,20 @@ metBy i c (e ∷ es) cs m = metBy i c es (enter c e cs) (cond (eqb i (parentColu
 abbrev pub drawsAt : Found → ℕ → List Entry → List Column → ℕ → Met
 drawsAt Nothing c es cs i = metBy i c es cs Nobody
 drawsAt (At p) c es cs i = cond (eqb i c) (metBy p c es cs Nobody) Nobody
+
+-- ---- who started a line (02, R-3)
+
+-- the column that the line in column i comes from, where the node's is c: "The id's move to another column carries it along." (02, R-3)
+abbrev pub source : Found → ℕ → ℕ → ℕ
+source Nothing c i = i
+source (At p) c i = cond (eqb i c) p i
+
+-- the node "in whose accepted row its id was first named" (02, R-3), for a line that comes from column j of the columns cs before the
+-- entries of a row of n: what the column carried, if it was Ancestor or Parent, else n
+abbrev pub lineOrigin : ℕ → List Column → List ℕ → ℕ → ℕ
+lineOrigin n cs os j = cond (isNamed (at cs j)) (originAt os j) n
+
+-- what column i carries after a row of n that was placed so, where the columns carried os: "since, or in, that id's last accepted own row"
+-- (02, R-3), since the node's own column is Empty before the entries
+abbrev pub originAfter : ℕ → Placed → List ℕ → ℕ → ℕ
+originAfter n p os i = counted (at (p .settled) i) (lineOrigin n (p .bare) os (source (p .up) (p .column) i))

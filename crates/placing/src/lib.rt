@@ -5,15 +5,13 @@ ghost use Prim.Native.Nat.{min};
 ghost use lib.Dec.{ltb, eqb};
 ghost use Rattle.column.specs.Columns.{live, orElse};
 ghost use Rattle.placing.specs.Placing.{columnOf, heldBy, parentColumn};
-ghost use Rattle.placing.specs.Inner.{holdsEntry, entered as enteredOf, columnBefore, endedColumn, Ends};
+ghost use Rattle.placing.specs.Inner.{holdsEntry, entered as enteredOf, columnBefore, endedSlot};
 use column::COLUMN_LIMIT;
 use column::Column;
 use column::Found;
 use column::Slot;
 use render::Ancestor;
 use render::DashStyle;
-use render::Options;
-use shaper::Shaper;
 use slices::lesser;
 
 // The column that an entry merges as.
@@ -49,8 +47,9 @@ pub fn held_by(slots: [Slot; COLUMN_LIMIT], count: usize, ancestor: Ancestor) ->
     }
 }
 
-// The column that an entry merges into: its id's, else an Empty one, the node's if it can be, else a new last one. The search for the id
-// stands here and not in a call of `held_by`, which would copy the slots once more for each entry.
+// The column that an entry merges into: its id's, else an Empty one, the node's if it can be (`find_empty` in column.rs), else a new last
+// one. The search for the id and the test of the node's column stand here: a function that was given the slots for either would copy them
+// once more for each entry.
 pub fn parent_column(
     slots: [Slot; COLUMN_LIMIT],
     count: usize,
@@ -69,20 +68,28 @@ pub fn parent_column(
         }
         i += 1;
     }
-    let Found::At(index) = column::find_empty(slots, count, column) else {
+    if column < n {
+        let own = slots[column];
+        let own_column = own.column;
+        if own_column.is_empty() {
+            return column;
+        }
+    }
+    let Found::At(index) = column::first_empty(slots, count) else {
         return n;
     };
     index
 }
 
-// The slot of a column after an entry merged into it.
-pub fn entered(slot: Slot, index: usize, count: usize, ancestor: Ancestor) -> Slot
-    ensures { λ r. ⌜ r ≡ enteredOf slot index count ancestor ⌝ }
+// The slot of a column after an entry of the node's row merged into it.
+pub fn entered(slot: Slot, index: usize, count: usize, ancestor: Ancestor, node: u32) -> Slot
+    ensures { λ r. ⌜ r ≡ enteredOf slot index count ancestor node ⌝ }
 {
     let old = slot.column_at(index, count);
     let new = ancestor_to_column(ancestor);
     let column = old.merge(new);
-    slot.with_column(column)
+    let origin = slot.origin_or(old, node);
+    Slot { column, origin }
 }
 
 // Where a placeholder stands before a new last column, else the node's own column.
@@ -122,54 +129,23 @@ pub fn or_else(found: Found, column: usize) -> usize
     }
 }
 
-// What a column is after a row: with Once dashes Ancestor turns Parent; Blocked becomes Empty.
-fn ended_column(column: Column, dash_style: DashStyle) -> Column
-    ensures { λ r. ⌜ r ≡ endedColumn «dash_style» column ⌝ }
+// The slot of a column after a row: with Once dashes Ancestor turns Parent; Blocked becomes Empty; an origin that does not count is 0.
+pub fn ended(slot: Slot, dash_style: DashStyle) -> Slot
+    ensures { λ r. ⌜ r ≡ endedSlot «dash_style» slot ⌝ }
 {
+    let old = slot.column;
+    if !old.is_named() {
+        let column = old.reset();
+        return Slot { column, origin: 0 };
+    }
     match dash_style {
-        DashStyle::Persistent => column.reset(),
+        DashStyle::Persistent => slot,
         DashStyle::Once => {
-            let turned = column.convert_ancestor_to_parent();
-            turned.reset()
+            let column = old.convert_ancestor_to_parent();
+            Slot {
+                column,
+                origin: slot.origin,
+            }
         }
     }
-}
-
-// What ends a row: every column as it is after it, then Empty columns at the end go. Gives the shaper after a row with these columns and
-// the node in `column`; its slots past the count are Empty.
-pub fn ended(given: [Slot; COLUMN_LIMIT], count: usize, column: usize, options: Options) -> Shaper
-    ensures { λ r. ⌜ Ends given count column options r ⌝ }
-{
-    let style = options.graph_row_shape_style;
-    let dash_style = style.dash_style;
-    let previous_node_column = Found::At(column);
-    let n = column::live_count(count);
-    let empty = Slot::empty();
-    let slots = [empty; COLUMN_LIMIT];
-    let mut next = Shaper {
-        slots,
-        count: n,
-        previous_node_column,
-        options,
-    };
-    let mut at: usize = 0;
-    while at < n {
-        let slot = given[at];
-        let old = slot.column;
-        let new = ended_column(old, dash_style);
-        next.slots[at] = slot.with_column(new);
-        at += 1;
-    }
-    while 0 < at {
-        let end = next.slots[at - 1];
-        let end_column = end.column;
-        if end_column.is_empty() {
-            at -= 1;
-        } else {
-            next.count = at;
-            return next;
-        }
-    }
-    next.count = at;
-    next
 }

@@ -3,7 +3,7 @@ use mathlib.Core.Path.{_≡_, ap, _∙_}
 use mathlib.Core.List.{List, [], _∷_}
 use Rattle.column.specs.declared.Column.{Column}
 use Rattle.column.specs.declared.Column.the-variants as column
-use Rattle.column.specs.Columns.{live}
+use Rattle.column.specs.Columns.{live, origins}
 use Rattle.render.specs.declared.render.Ancestor.{Ancestor as Entry}
 use Rattle.render.specs.declared.render.Ancestor.the-variants.{Parent}
 use Rattle.render.specs.declared.render.Entries.{Entries}
@@ -25,14 +25,14 @@ abbrev m10-entries : List Entry
 m10-entries = Parent 7 ∷ Parent 8 ∷ []
 
 abbrev m10-view : Shaper → View
-m10-view s = viewWith (column.Parent 7 ∷ []) (s .«previous_node_column») (s .options)
+m10-view s = viewWith (column.Parent 7 ∷ []) (origins (s .count) (s .slots)) (s .«previous_node_column») (s .options)
 
 -- "The width call keeps the Rust's figure, also where the preview differs (M10)" (02, R-1): on any shaper with M10's column, whatever else
 -- it holds, both calls pass; the preview gives 2 and the width call 1
 module _ (s : Shaper) (es : Entries) (c : live (s .count) (s .slots) ≡ column.Parent 7 ∷ []) (e : listed es ≡ m10-entries) where
   -- what is made of view and entries is made of M10's
   same : {A : Type 0} (f : View → List Entry → A) → f (viewOf s) (listed es) ≡ f (m10-view s) m10-entries
-  same f = ap (λ (cs : List Column). f (viewWith cs (s .«previous_node_column») (s .options)) (listed es)) c ∙ ap (f (m10-view s)) e
+  same f = ap (λ (cs : List Column). f (viewWith cs (origins (s .count) (s .slots)) (s .«previous_node_column») (s .options)) (listed es)) c ∙ ap (f (m10-view s)) e
 
   pub preview-of-m10 : (p : PreviewAnswer) → Previews s 7 (listed es) p → (p .refusal ≡ 0) × (p .width ≡ 2)
   unfolding row place

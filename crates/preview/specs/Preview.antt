@@ -12,10 +12,12 @@ pub record PreviewReply : Type 0 where
   pub column : ℕ
   pub width : ℕ
   pub columns : List Column
+  -- what they carry (02, R-3)
+  pub origins : List ℕ
 
 -- these four of a row call's answer; of a refused one column 0, width 0 and the columns as they were
 abbrev pub previewOf : RowReply → PreviewReply
-previewOf r = record { refusal = r .refusal; column = r .shape .«node_column»; width = r .shape .width; columns = r .view .columns }
+previewOf r = record { refusal = r .refusal; column = r .shape .«node_column»; width = r .shape .width; columns = r .view .columns; origins = r .view .origins }
 
 -- "It equals the row call made on a copy" (02, R-1)
 abbrev pub preview : View → ℕ → List Entry → PreviewReply

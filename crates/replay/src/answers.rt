@@ -21,6 +21,7 @@ use column::COLUMN_LIMIT;
 use column::Column;
 use column::Found;
 use column::Slot;
+use column::Started;
 use output::TextState;
 use preview::PreviewAnswer;
 use render::RowShape;
@@ -83,13 +84,28 @@ fn id(column: Column) -> Found {
     }
 }
 
-// One column.
-fn put_column(out: &mut Buffer, printer: Printer, column: Column) -> Printer {
+// A column's kind and, unless it holds none, its id.
+fn put_held(out: &mut Buffer, printer: Printer, column: Column) -> Printer {
     let kind = put_set(out, printer, kind(column));
     let Found::At(id) = id(column) else {
         return kind;
     };
     put_named(out, kind, b" ", id as u64)
+}
+
+// ` by NODE`, where a row has named the column's id: the node of that row.
+fn put_origin(out: &mut Buffer, printer: Printer, slot: Slot) -> Printer {
+    let Started::By(node) = slot.started() else {
+        return printer;
+    };
+    put_named(out, printer, b" by ", node as u64)
+}
+
+// One column, and the node that it carries.
+fn put_column(out: &mut Buffer, printer: Printer, slot: Slot) -> Printer {
+    let column = slot.column;
+    let held = put_held(out, printer, column);
+    put_origin(out, held, slot)
 }
 
 // ` columns=COLUMNS`: the live columns, joined by commas.
@@ -104,9 +120,8 @@ fn put_columns(
     let mut i: usize = 0;
     while i < live {
         let slot = slots[i];
-        let column = slot.column;
         let joined = put_comma(out, now, i == 0);
-        now = put_column(out, joined, column);
+        now = put_column(out, joined, slot);
         i += 1;
     }
     now
@@ -205,6 +220,15 @@ fn put_width(out: &mut Buffer, printer: Printer, refusal: u8, width: u64) -> Pri
     put_line(out, line, b" ", width)
 }
 
+// `origin ID`, `origin none` or `origin not waiting`
+fn put_started(out: &mut Buffer, printer: Printer, started: Started) -> Printer {
+    match started {
+        Started::NotWaiting => put(out, printer, b"origin not waiting\n"),
+        Started::Unnamed => put(out, printer, b"origin none\n"),
+        Started::By(node) => put_line(out, printer, b"origin ", node as u64),
+    }
+}
+
 // `out COUNT:BYTES`
 fn put_out(out: &mut Buffer, printer: Printer, bytes: &[u8]) -> Printer {
     let named = put(out, printer, b"out ");
@@ -274,6 +298,7 @@ pub(crate) fn put_reply(out: &mut Buffer, printer: Printer, page: &Page, reply: 
         Answer::Row(refusal) => put_row(out, printer, refusal, shape, shaper),
         Answer::Preview => put_preview(out, printer, preview, shaper),
         Answer::Width(refusal, width) => put_width(out, printer, refusal, width),
+        Answer::Origin(started) => put_started(out, printer, started),
         Answer::Renderer(refusal, length, room) => {
             put_renderer(out, printer, refusal, length, page::output(page, room))
         }

@@ -30,6 +30,9 @@ use width::NewNode;
 // The bytes of a slot: its kind and its id.
 const SLOT: usize = 5;
 
+// The bytes of a slot's origin.
+const ORIGIN: usize = 4;
+
 // The bytes of an entry: its kind and its id.
 const ENTRY: usize = 5;
 
@@ -100,22 +103,31 @@ fn column(kind: u8, id: u32) -> Column {
     }
 }
 
-// The slot at a place: kind, id.
-fn slot_at(payload: &[u8], at: usize) -> Slot {
+// The slot at a place: kind, id; its origin is at another place.
+fn slot_at(payload: &[u8], at: usize, origin_at: usize) -> Slot {
     let column = column(u8_at(payload, at), u32_at(payload, after(at, 1)));
-    Slot { column }
+    let origin = u32_at(payload, origin_at);
+    Slot { column, origin }
 }
 
-// The slots at a place: how many are given, then those. Slots not given are Empty.
+// Where the origins begin of the slots at a place: behind all slots that are given, those past the array's end among them.
+fn origins_at(payload: &[u8], at: usize) -> usize {
+    let given = u8_at(payload, at) as usize;
+    after(at, 1 + SLOT * given)
+}
+
+// The slots at a place: how many are given, then those, then the origin of each. Slots not given are Empty.
 pub(crate) fn slots_at(payload: &[u8], at: usize) -> [Slot; COLUMN_LIMIT] {
     let given = column::live_count(u8_at(payload, at) as usize);
     let empty = Slot::empty();
     let mut slots = [empty; COLUMN_LIMIT];
     let mut place = after(at, 1);
+    let mut origin = origins_at(payload, at);
     let mut i: usize = 0;
     while i < given {
-        slots[i] = slot_at(payload, place);
+        slots[i] = slot_at(payload, place, origin);
         place = after(place, SLOT);
+        origin = after(origin, ORIGIN);
         i += 1;
     }
     slots

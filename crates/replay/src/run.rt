@@ -5,6 +5,7 @@ use crate::input::HEADER;
 use crate::page;
 use crate::page::Page;
 use crate::page::Text;
+use column::Started;
 use lineage::RecordAnswer;
 use output::TextState;
 use preview::PreviewAnswer;
@@ -36,6 +37,7 @@ pub(crate) enum Answer {
     Row(u8),
     Preview,
     Width(u8, u64),
+    Origin(Started),
     Renderer(u8, u64, usize),
     Text(u8, u64, u64, usize),
     Record,
@@ -170,6 +172,13 @@ fn width(payload: &[u8], state: State) -> Reply {
     Reply { answer, state }
 }
 
+// `O`: id.
+fn origin(payload: &[u8], state: State) -> Reply {
+    let shaper = state.shaper;
+    let answer = Answer::Origin(lent::origin_on(shaper, input::u32_at(payload, 0)));
+    Reply { answer, state }
+}
+
 // `P`: renderer (at 0), mark (1), output length (2).
 fn render(payload: &[u8], page: &mut Page, state: State) -> Reply {
     let shape = state.shape;
@@ -246,7 +255,7 @@ fn record(payload: &[u8], state: State) -> Reply {
     }
 }
 
-// `S`: count (at 0), previous (8), options (17), slots (28).
+// `S`: count (at 0), previous (8), options (17), slots and origins (28).
 fn set_shaper(payload: &[u8], state: State) -> Reply {
     let slots = codes::slots_at(payload, 28);
     let count = input::u64_at(payload, 0) as usize;
@@ -306,6 +315,7 @@ fn call(letter: u8, payload: &[u8], page: &mut Page, state: State) -> Reply {
         b'W' => row(payload, state),
         b'B' => preview(payload, state),
         b'V' => width(payload, state),
+        b'O' => origin(payload, state),
         b'P' => render(payload, page, state),
         b'T' => text(payload, page, state),
         b'D' => record(payload, state),

@@ -7,17 +7,17 @@ use native.Mathlib.Nat.{not-suc-le-zero, le-of-suc-le-suc}
 use native.Mathlib.Omega.{arith}
 use lib.Dec.{ltb, eqb}
 use lib.ListN.{length, getD, drop, set, replicate, length-append, length-set, length-replicate}
-use lib.Seq.{getD-set-same, getD-set-other}
+use lib.Seq.{getD-set-same, getD-set-other, ext-getD}
 use borrow.Author.Tests.{lt-ltb, le-ltb, ltb-true, ltb-false, eqb-true, eqb-false}
 use Rattle.column.specs.declared.Column.{Column}
 use Rattle.column.specs.declared.Column.the-variants.{Empty, Ancestor, Parent}
 use Rattle.column.specs.declared.Found.{Found}
 use Rattle.column.specs.declared.Found.the-variants.{At, Nothing}
 use Rattle.column.specs.declared.Slot.{Slot}
-use Rattle.column.specs.Columns.{columnLimit, isParent, isAncestor, find, orElse, at, put, live, emptySlot}
+use Rattle.column.specs.Columns.{columnLimit, isParent, isAncestor, isNamed, find, orElse, at, put, live, counted, carried, origins, originAt, emptySlot}
 use Rattle.slices.proofs.Front.{length-front, front-clamp}
-use Rattle.column.proofs.Laws.{columnOf as slotColumn, live-at, first-below}
-use Rattle.column.proofs.Positions.{length-put}
+use Rattle.column.proofs.Laws.{columnOf as slotColumn, live-at, origins-at, origins-past, first-below}
+use Rattle.column.proofs.Positions.{at-put-same, length-put, past-end}
 use Rattle.render.specs.declared.render.Ancestor.{Ancestor as Entry}
 use Rattle.render.specs.declared.render.Entry.{Entry as Entry₁}
 use Rattle.render.specs.declared.render.Entries.{Entries}
@@ -38,13 +38,14 @@ use Rattle.shaper.specs.declared.Shaper.{Shaper}
 use Rattle.shaper.specs.Shaper.{View, viewOf}
 use Rattle.shaper.specs.NodeColumn.{unallocated, nodeColumn, headAt, head, Finds}
 use Rattle.shaper.proofs.NodeLaws.{node-in, fitting-at, fitting-none, head-held}
-use Rattle.placing.specs.Placing.{walk, gaveUp, swapped, Placed, placeAt, place, kindOf, drawsAt}
-use Rattle.placing.specs.Inner.{columnBefore, Ends}
-use Rattle.placing.proofs.PlacingLaws.{walk-more, opened-long, opened-is, before-is, Going, Gone, going-start, going-end, given-next, given-end}
-use Rattle.placing.proofs.SwapLaws.{other-inside, width-is, up-is, moved-is, redrawn-long, redrawn-is, kind-kept}
+use Rattle.placing.specs.Placing.{walk, gaveUp, swapped, Placed, placeAt, place, kindOf, drawsAt, source, lineOrigin, originAfter}
+use Rattle.placing.specs.Inner.{columnBefore}
+use Rattle.placing.proofs.EndLaws.{Ends}
+use Rattle.placing.proofs.PlacingLaws.{walk-more, opened-long, opened-is, opened-carries, before-is, Carrying, Going, Gone, going-start, going-end, given-next, given-end}
+use Rattle.placing.proofs.SwapLaws.{other-inside, width-is, up-is, moved-is, moved-carries, redrawn-long, redrawn-is, kind-kept}
 use Rattle.cells.specs.Cells.{cellsFrom, cellOf}
 use Rattle.cells.specs.Inner.{plainCell, cellWith}
-use Rattle.cells.proofs.CellLaws.{Keeps, cell-is, plain-cell-is, plain-shown, length-cells, cells-start, cells-next, cells-at, cells-past, cells-are}
+use Rattle.cells.proofs.CellLaws.{Keeps, cell-is, plain-cell-is, plain-shown, length-cells, cells-start, cells-next, cells-at, cells-inside, cells-past, cells-are}
 use Rattle.row_shape.specs.declared.RowAnswer.{RowAnswer}
 use Rattle.row_shape.specs.Row.{separator, shapeAt, noShape, RowReply, rowChecks, rowAfter, rowAnswer, row}
 use Rattle.row_shape.specs.Inner.{separatorWith}
@@ -162,6 +163,12 @@ module _ (s : Shaper) (n : ℕ) (es : Entries) (existing : Found) (c m : ℕ) (b
       going-start bare c (given es) _ w parents (opened-long (s .slots) m c (b .long) few-columns (b .within) near k w e f) (omega arith)
       (opened-is (s .slots) m c (b .long) few-columns (b .within) near k w e f) p
 
+  same-origins : u .origins ≡ origins m (s .slots)
+  same-origins = sym (front-clamp carried m (s .count) (s .slots) (rw (b .long) (b .count)))
+
+  pub row-carries : (k w : ℕ) → k ≡ min m c → w ≡ min (max m (c + 1)) columnLimit → Carrying n bare (u .origins) (set (set (s .slots) k emptySlot) c emptySlot) w
+  row-carries k w e f = opened-carries (s .slots) m c (b .long) few-columns (b .within) near k w e f n (u .origins) same-origins
+
   -- the walk ends
   pub row-walked : (i : ℕ) (slots : List Slot) (count : ℕ) (parents : List ParentColumn) (last : ℕ) (said : Bool) → Going bare c (given es) i slots count parents last said → es .count ≤ i
       → Gone bare c (given es) slots count parents last said
@@ -219,7 +226,7 @@ shape-by : (v : View) (n : ℕ) (es : List Entry) (p : Placed) (merges sep hd ro
 shape-by v n es p merges sep hd root term width r w need cells e1 e2 e3 e4 e5 e6 e7 e8 e9 e10 = rw (e1, e2, e3, e4, e5, e6, e10, e9, e7, e8)
 
 accept : (v : View) (n : ℕ) (es : List Entry) (c : ℕ) (cs : List Column) → c ≡ nodeColumn v n → cs ≡ put (v .columns) c Empty → tooMany es ≡ false → length (walk c es cs) ≤ columnLimit
-    → row v n es ≡ record { refusal = 0; shape = shapeAt v n es (placeAt c es cs); view = rowAfter v (placeAt c es cs) }
+    → row v n es ≡ record { refusal = 0; shape = shapeAt v n es (placeAt c es cs); view = rowAfter v n (placeAt c es cs) }
 accept v n es c cs e b few h =
     row-from v n es c e ∙ rw (← b, few, le-ltb columnLimit (length (walk c es cs)) h)
 
@@ -354,6 +361,42 @@ module _ (s : Shaper) (n : ℕ) (es : Entries) (existing : Found) (c m : ℕ) (b
       pub slots-long : length slots ≡ columnLimit
       slots-long = ap length slots-is ∙ length-set (set walked c (getD walked o emptySlot)) o _ ∙ length-set walked c _ ∙ g .long
 
+      -- what they carry
+      module _ (y : Carrying n bs (viewOf s .origins) walked count) where
+        abbrev after : ℕ → ℕ
+        after = originAfter n (placeAt c rs bs) (viewOf s .origins)
+
+        moved-slots : slots ≡ set (set walked c (getD walked (orElse up c) emptySlot)) (orElse up c) (getD walked c emptySlot)
+        moved-slots = slots-is ∙ ap (λ (x : ℕ). set (set walked c (getD walked x emptySlot)) x (getD walked c emptySlot)) o-other
+
+        named-origin : (i : ℕ) → isNamed (at settled i) ≡ true → (getD slots i emptySlot) .origin ≡ lineOrigin n bs (viewOf s .origins) (source up c i)
+        named-origin i h =
+            ap (λ (l : List Slot). (getD l i emptySlot) .origin) moved-slots
+            ∙ moved-carries bs c rs walked count met last said g inside (at-put-same (live m (s .slots)) c Empty) n (viewOf s .origins) y i h
+
+        carries-at : (i : ℕ) → originAt (origins count slots) i ≡ after i
+        carries-at i = go (ltb i count) refl (isNamed (at settled i)) refl
+          where
+            there : i < count → originAt (origins count slots) i ≡ counted (at settled i) ((getD slots i emptySlot) .origin)
+            there h =
+                let l : i < length slots = rw slots-long (omega (arith, g .fits)) in
+                origins-at count slots i h l ∙ ap (λ (x : Column). counted x ((getD slots i emptySlot) .origin)) (sym (live-at count slots i h l) ∙ ap (λ (x : List Column). at x i) settled-is)
+
+            go : (a : Bool) → ltb i count ≡ a → (b : Bool) → isNamed (at settled i) ≡ b → originAt (origins count slots) i ≡ after i
+            go true q true z = there (ltb-true i count q) ∙ rw z (named-origin i z)
+            go true q false z = there (ltb-true i count q) ∙ rw z
+            go false q b z =
+                let k : count ≤ i = ltb-false i count q in
+                let e : at settled i ≡ Empty = past-end settled i (rw (← settled-is, length-front slotColumn count slots) (omega arith)) in
+                origins-past count slots i (omega arith) ∙ rw e
+
+        origins-after : (x : Shaper) → Ends slots count c (s .options) x → origins (x .count) (x .slots) ≡ cellsFrom after 0 (length (live (x .count) (x .slots)))
+        origins-after x h =
+            let same : length (origins (x .count) (x .slots)) ≡ length (live (x .count) (x .slots)) = length-front carried (x .count) (x .slots) ∙ sym (length-front slotColumn (x .count) (x .slots)) in
+            ext-getD 0 (origins (x .count) (x .slots)) (cellsFrom after 0 (length (live (x .count) (x .slots))))
+            (same ∙ sym (length-cells after 0 0 (length (live (x .count) (x .slots)))))
+            (λ i k. h .carried i ∙ carries-at i ∙ sym (cells-inside after 0 (length (live (x .count) (x .slots))) i (rw same at k)))
+
       redrawn-as : parents ≡ set (set met (orElse up c) nobody) c (getD met (orElse up c) nobody)
       redrawn-as = parents-is ∙ ap (λ (x : ℕ). set (set met x nobody) c (getD met x nobody)) o-other
 
@@ -467,11 +510,12 @@ module _ (s : Shaper) (n : ℕ) (es : Entries) (existing : Found) (c m : ℕ) (b
                 width-as (g .said-is) bounds-as swap-is need-is cells-as
 
             -- an accepted row: its shape, and the shaper after it
-            pub row-done : (x : Shaper) → Ends slots count c (s .options) x → Rows s n es (record { refusal = 0; shape = shape; shaper = x })
-            row-done x h =
+            pub row-done : (x : Shaper) → Ends slots count c (s .options) x → Carrying n bs (viewOf s .origins) walked count
+                → Rows s n es (record { refusal = 0; shape = shape; shaper = x })
+            row-done x h y =
                 record {
                   reply =
-                      reply-same 0 shape (shapeAt (viewOf s) n rs p) _ (rowAfter (viewOf s) p) shape-is (rw (h .columns, h .previous, h .options, settled-is))
+                      reply-same 0 shape (shapeAt (viewOf s) n rs p) _ (rowAfter (viewOf s) n p) shape-is (rw (origins-after y x h, h .columns, h .previous, h .options, settled-is))
                       ∙ sym (accept (viewOf s) n rs c bs (b .place) (bare-is s n es existing c m b) (rw (← given-is s n es existing c m b) (b .few)) (rw (← width-as) (g .fits)))
                       ∙ ap (row (viewOf s) n) (sym (given-is s n es existing c m b));
                   refused = λ z. absurd (z refl);

@@ -9,4 +9,4 @@ use Rattle.row_shape.specs.Row.{separator}
 
 -- whether a row needs a separator, by the options and the previous node's column
 abbrev pub separatorWith : Options → Found → Found → ℕ → Bool → Bool
-separatorWith o previous existing c terms = separator (viewWith [] previous o) existing c terms
+separatorWith o previous existing c terms = separator (viewWith [] [] previous o) existing c terms

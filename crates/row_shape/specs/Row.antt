@@ -4,6 +4,7 @@ use mathlib.Core.Bool.{Bool, false, not, _&&_}
 use mathlib.Core.List.{List, [], _∷_, _++_}
 use lib.Dec.{ltb, leb, eqb}
 use lib.ListN.{length, replicate}
+use Rattle.column.specs.declared.Column.{Column}
 use Rattle.column.specs.declared.Found.{Found}
 use Rattle.column.specs.declared.Found.the-variants.{At}
 use Rattle.column.specs.Columns.{columnLimit, isParent, find, orElse, at, reset}
@@ -18,7 +19,7 @@ use Rattle.render.specs.Refusals.{tooManyEntries, nodeLineTooWide, Check, _when
 use Rattle.shaper.specs.Shaper.{View, viewAfter, isNothing, refusedOptions}
 use Rattle.shaper.specs.NodeColumn.{head}
 use Rattle.cells.specs.Cells.{cellOf, cellsFrom}
-use Rattle.placing.specs.Placing.{solidOnce, Placed, place, kindOf, drawsAt}
+use Rattle.placing.specs.Placing.{solidOnce, Placed, place, kindOf, drawsAt, originAfter}
 use Rattle.links.specs.Links.{boundsOf, isAt, linked}
 
 -- "The separator flag: no column held before, height at most 1, no staggering, same column as the previous node, no Anonymous entry."
@@ -76,13 +77,17 @@ pub record RowReply : Type 0 where
 abbrev pub rowChecks : List Entry → Placed → List Check
 rowChecks es p = (tooManyEntries when tooMany es) ∷ (nodeLineTooWide when ltb columnLimit (length (p .walked))) ∷ []
 
--- the shaper after a row: "`reset` ends every row."
-abbrev pub rowAfter : View → Placed → View
-rowAfter v p = viewAfter v (reset (solidOnce (v .style .«dash_style») (p .settled))) (At (p .column))
+-- the columns after a row: "`reset` ends every row."
+abbrev pub columnsAfter : View → Placed → List Column
+columnsAfter v p = reset (solidOnce (v .style .«dash_style») (p .settled))
+
+-- the shaper after a row of the node n
+abbrev pub rowAfter : View → ℕ → Placed → View
+rowAfter v n p = viewAfter v (columnsAfter v p) (cellsFrom (originAfter n p (v .origins)) 0 (length (columnsAfter v p))) (At (p .column))
 
 -- "A refusal gives its number, .. a shape without cells .., and changes no state"
 abbrev pub rowAnswer : ℕ → View → ℕ → List Entry → Placed → RowReply
-rowAnswer zero v n es p = record { refusal = 0; shape = shapeAt v n es p; view = rowAfter v p }
+rowAnswer zero v n es p = record { refusal = 0; shape = shapeAt v n es p; view = rowAfter v n p }
 rowAnswer (suc k) v n es p = record { refusal = suc k; shape = noShape; view = v }
 
 -- the row call (`next_row_shape`) on a list of any length

@@ -121,7 +121,7 @@ pub fn next_row_shape(shaper: Shaper, node: u32, entries: Entries) -> RowAnswer
             return refused_row(shaper, NODE_LINE_TOO_WIDE);
         }
         let slot = slots[index];
-        slots[index] = placing::entered(slot, index, count, ancestor);
+        slots[index] = placing::entered(slot, index, count, ancestor, node);
         count = column::count_with(count, index);
         parents[index] = ParentColumn::drawn_by(ancestor);
         parent_column = index;
@@ -182,7 +182,32 @@ pub fn next_row_shape(shaper: Shaper, node: u32, entries: Entries) -> RowAnswer
     }
     let style = options.graph_row_shape_style;
     let separator_line = separator_line(options, previous, existing, column, need_term_line);
-    let next = placing::ended(slots, count, column, options);
+    // what ends the row: every column as it is after it, into fresh slots; then Empty columns at the end go
+    let dash_style = style.dash_style;
+    let empty = Slot::empty();
+    let fresh = [empty; COLUMN_LIMIT];
+    let previous_node_column = Found::At(column);
+    let mut next = Shaper {
+        slots: fresh,
+        count: 0,
+        previous_node_column,
+        options,
+    };
+    let mut at: usize = 0;
+    while at < count {
+        let settled_slot = slots[at];
+        next.slots[at] = placing::ended(settled_slot, dash_style);
+        at += 1;
+    }
+    while 0 < at {
+        let last = next.slots[at - 1];
+        let last_column = last.column;
+        if !last_column.is_empty() {
+            break;
+        }
+        at -= 1;
+    }
+    next.count = at;
     let shape = RowShape {
         node,
         merge: 1 < n,

@@ -4,20 +4,22 @@ use mathlib.Core.Path.{_≡_, refl, _∙_, sym}
 use mathlib.Core.Bool.{false}
 use mathlib.Core.List.{List, map}
 use native.Mathlib.Omega.{arith}
-use lib.ListN.{length, set, length-map}
+use lib.ListN.{length, getD, set, length-map}
 use borrow.Author.Tests.{le-leb, lt-leb, lt-ltb, le-ltb}
 use Rattle.column.specs.declared.Column.{Column}
-use Rattle.column.specs.declared.Column.the-variants.{Reserved}
+use Rattle.column.specs.declared.Column.the-variants.{Empty, Blocked, Reserved, Ancestor, Parent}
 use Rattle.column.specs.declared.Found.the-variants.{At, Nothing}
 use Rattle.column.specs.declared.Slot.{Slot}
-use Rattle.column.specs.Columns.{columnLimit, isEmpty, find, live, first, orElse, vacant, put}
+use Rattle.column.specs.Columns.{columnLimit, isEmpty, holds, find, live, first, orElse, vacant, put, startedBy, counted, emptySlot}
+use Rattle.slices.specs.Lists.{putWith}
 use Rattle.slices.proofs.Front.{length-front}
-use Rattle.column.proofs.Laws.{first-below, live-put}
+use Rattle.column.specs.declared.Started.the-variants.{NotWaiting}
+use Rattle.column.proofs.Laws.{columnOf, first-below, live-at, live-put, origins-at, origins-put}
 use Rattle.render.specs.declared.render.Entries.{Entries}
 use Rattle.render.specs.Entries.{entryLimit, listed, tooMany}
 use Rattle.render.specs.Refusals.{notRefused, heightAboveLimit, noColumnLeft}
 use Rattle.shaper.specs.declared.Shaper.{Shaper}
-use Rattle.shaper.specs.Shaper.{heightLimit, viewOf, View, fresh, refusedOptions, Fresh, withColumns, reserve, reservedSlot, Reserves}
+use Rattle.shaper.specs.Shaper.{heightLimit, viewOf, View, fresh, refusedOptions, Fresh, withColumns, reserve, reservedSlot, Reserves, origin}
 use Rattle.column.specs.declared.Found.{Found}
 use Rattle.column.proofs.Slot.{the-type}
 use Rattle.render.specs.declared.render.Entry.{Entry}
@@ -69,12 +71,12 @@ module _ (v : View) (n : ℕ) where
     reserve-full = full (first isEmpty cs) refl
 
     room : (f : Found) → first isEmpty cs ≡ f → orElse f (length cs) < columnLimit
-        → reserve v n ≡ record { refusal = 0; view = withColumns v (put cs (orElse f (length cs)) (Reserved n)) }
+        → reserve v n ≡ record { refusal = 0; view = withColumns v (put cs (orElse f (length cs)) (Reserved n)) (putWith 0 (v .origins) (orElse f (length cs)) 0) }
     unfolding reserve
     room (At i) q g = rw (e, q)
     room Nothing q g = rw (e, q, lt-leb columnLimit (length cs) g)
 
-    pub reserve-room : vacant cs < columnLimit → reserve v n ≡ record { refusal = 0; view = withColumns v (put cs (vacant cs) (Reserved n)) }
+    pub reserve-room : vacant cs < columnLimit → reserve v n ≡ record { refusal = 0; view = withColumns v (put cs (vacant cs) (Reserved n)) (putWith 0 (v .origins) (vacant cs) 0) }
     reserve-room = room (first isEmpty cs) refl
 
     pub vacant-within : vacant cs ≤ length cs
@@ -128,7 +130,7 @@ module _ (s : Shaper) (n : ℕ) where
       room-done =
           record {
             reply =
-                rw (live-put (s .count) i m (s .slots) (reservedSlot n) p q r, a)
+                rw (live-put (s .count) i m (s .slots) (reservedSlot n) p q r, origins-put (s .count) i m (s .slots) (reservedSlot n) p q r, a)
                 (sym (reserve-room (viewOf s) n e (omega arith)));
             refused = λ z. absurd (z refl);
             held = λ j x. let y : _≡_ {A = ℕ} 0 1 = cc in absurd (omega arith);
@@ -136,3 +138,27 @@ module _ (s : Shaper) (n : ℕ) where
             taken = λ x z. rw a;
             options = refl;
           }
+
+-- ---- the query
+reads-counted : (c : Column) (o : ℕ) → startedBy c (counted c o) ≡ startedBy c o
+reads-counted Empty o = refl
+reads-counted Blocked o = refl
+reads-counted (Reserved n) o = refl
+reads-counted (Ancestor n) o = refl
+reads-counted (Parent n) o = refl
+
+module _ (s : Shaper) (n : ℕ) where
+  pub not-waiting : find n (live (s .count) (s .slots)) ≡ Nothing → NotWaiting ≡ origin (viewOf s) n
+  not-waiting e = rw e
+
+  pub started-found : (i : ℕ) → find n (live (s .count) (s .slots)) ≡ At i → length (s .slots) ≡ columnLimit
+      → startedBy ((getD (s .slots) i emptySlot) .column) ((getD (s .slots) i emptySlot) .origin) ≡ origin (viewOf s) n
+  started-found i e long =
+      let h : i < length (live (s .count) (s .slots)) = first-below (holds n) (live (s .count) (s .slots)) i e in
+      let k : i < s .count = omega (arith, length-front columnOf (s .count) (s .slots)) in
+      let l : i < length (s .slots) = omega (arith, length-front columnOf (s .count) (s .slots)) in
+      rw (e, live-at (s .count) (s .slots) i k l, origins-at (s .count) (s .slots) i k l) (sym (reads-counted ((getD (s .slots) i emptySlot) .column) ((getD (s .slots) i emptySlot) .origin)))
+
+  -- the index that was found is one of the array's
+  pub found-within : (i : ℕ) → find n (live (s .count) (s .slots)) ≡ At i → length (s .slots) ≡ columnLimit → i < columnLimit
+  found-within i e long = omega (arith, first-below (holds n) (live (s .count) (s .slots)) i e, length-front columnOf (s .count) (s .slots))

@@ -29,7 +29,7 @@ is-dense false h e = let z : _≡_ {A = ℕ} 0 1 = cc in absurd (omega arith)
 is-dense true h e = le-leb (min h heightLimit) 1 (omega (arith, ltb-false 1 h e))
 
 -- ---- the column of a node that none holds
-module _ (cs : List Column) (prev : Found) (o : Options) where
+module _ (cs : List Column) (os : List ℕ) (prev : Found) (o : Options) where
   abbrev stagger : Bool
   stagger = o .«stagger_consecutive_disconnected_nodes»
 
@@ -39,22 +39,22 @@ module _ (cs : List Column) (prev : Found) (o : Options) where
   abbrev asked : Bool
   asked = not stagger || ltb 1 height
 
-  pub unallocated-plain : (r : ℕ) → asked ≡ true → r ≡ vacant cs → r ≡ unallocated (viewWith cs prev o)
+  pub unallocated-plain : (r : ℕ) → asked ≡ true → r ≡ vacant cs → r ≡ unallocated (viewWith cs os prev o)
   unallocated-plain r e h = rw (not-dense stagger height e) h
 
   module _ (e : asked ≡ false) where
-    pub unallocated-first : (r : ℕ) → prev ≡ Nothing → r ≡ vacant cs → r ≡ unallocated (viewWith cs prev o)
+    pub unallocated-first : (r : ℕ) → prev ≡ Nothing → r ≡ vacant cs → r ≡ unallocated (viewWith cs os prev o)
     unallocated-first r p h = rw (is-dense stagger height e, p) h
 
     module _ (p : ℕ) (f : prev ≡ At p) where
-      pub unallocated-other : (i : ℕ) → first isEmpty (set cs p Blocked) ≡ At i → i ≡ unallocated (viewWith cs prev o)
+      pub unallocated-other : (i : ℕ) → first isEmpty (set cs p Blocked) ≡ At i → i ≡ unallocated (viewWith cs os prev o)
       unallocated-other i q = rw (is-dense stagger height e, f, q)
 
       module _ (q : first isEmpty (set cs p Blocked) ≡ Nothing) (n : ℕ) (k : n ≡ length cs) where
-        pub unallocated-skip : p ≡ n → n + 1 ≡ unallocated (viewWith cs prev o)
+        pub unallocated-skip : p ≡ n → n + 1 ≡ unallocated (viewWith cs os prev o)
         unallocated-skip h = rw (is-dense stagger height e, f, q, eq-eqb p (length cs) (h ∙ k), add-one n, k)
 
-        pub unallocated-last : (p ≡ n → ⊥) → n ≡ unallocated (viewWith cs prev o)
+        pub unallocated-last : (p ≡ n → ⊥) → n ≡ unallocated (viewWith cs os prev o)
         unallocated-last h = rw (is-dense stagger height e, f, q, ne-eqb p (length cs) (λ z. h (z ∙ sym k))) k
 
 pub fitting-in : (c : ℕ) → c < columnLimit → At c ≡ fitting c

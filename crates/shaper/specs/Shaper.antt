@@ -5,12 +5,15 @@ use mathlib.Core.Bool.{Bool, true, false, _&&_}
 use mathlib.Core.List.{List, [], _∷_}
 use lib.Dec.{ltb, leb}
 use lib.ListN.{length, replicate, set}
+use Rattle.slices.specs.Lists.{putWith}
 use Rattle.column.specs.declared.Column.{Column}
 use Rattle.column.specs.declared.Column.the-variants.{Reserved}
 use Rattle.column.specs.declared.Slot.{Slot}
 use Rattle.column.specs.declared.Found.{Found}
 use Rattle.column.specs.declared.Found.the-variants.{At, Nothing}
-use Rattle.column.specs.Columns.{columnLimit, isEmpty, first, find, vacant, put, live, emptySlot}
+use Rattle.column.specs.declared.Started.{Started}
+use Rattle.column.specs.declared.Started.the-variants.{NotWaiting}
+use Rattle.column.specs.Columns.{columnLimit, isEmpty, first, find, vacant, at, put, live, emptySlot, startedBy, origins, originAt}
 use Rattle.render.specs.declared.types.DashStyle.the-variants.{Persistent}
 use Rattle.render.specs.declared.types.LinkLinePlacement.the-variants.{Top}
 use Rattle.render.specs.declared.types.Style.{Style}
@@ -26,16 +29,19 @@ heightLimit = 16
 -- what a shaper stands for
 pub record View : Type 0 where
   pub columns : List Column
+  -- what each of them carries (02, R-3)
+  pub origins : List ℕ
   pub previous : Found
   pub height : ℕ
   pub stagger : Bool
   pub style : Style
 
 -- what a shaper with these columns stands for: "a height above 16 [is read] as 16" (01, "Where a call turns back")
-abbrev pub viewWith : List Column → Found → Options → View
-viewWith cs p o =
+abbrev pub viewWith : List Column → List ℕ → Found → Options → View
+viewWith cs os p o =
     record {
       columns = cs;
+      origins = os;
       previous = p;
       height = min (o .«min_row_height») heightLimit;
       stagger = o .«stagger_consecutive_disconnected_nodes»;
@@ -44,7 +50,7 @@ viewWith cs p o =
 
 -- "a column count above 64 is read as 64" (01, "Where a call turns back")
 abbrev pub viewOf : Shaper → View
-viewOf s = viewWith (live (s .count) (s .slots)) (s .«previous_node_column») (s .options)
+viewOf s = viewWith (live (s .count) (s .slots)) (origins (s .count) (s .slots)) (s .«previous_node_column») (s .options)
 
 -- what a call gives: the refusal's number, 0 for none, and the shaper after it
 pub record Reply : Type 0 where
@@ -103,17 +109,37 @@ reservedIn Nothing n cs = put cs (vacant cs) (Reserved n)
 abbrev pub reserved : ℕ → List Column → List Column
 reserved n cs = reservedIn (find n cs) n cs
 
--- a view with other columns and another previous node column
-abbrev pub viewAfter : View → List Column → Found → View
-viewAfter v cs p = record { columns = cs; previous = p; height = v .height; stagger = v .stagger; style = v .style }
+-- an id that a reservation makes wait has no origin: "a mark for none if only reserved" (02, R-3)
+abbrev pub reservedOriginsIn : Found → List Column → List ℕ → List ℕ
+reservedOriginsIn (At i) cs os = os
+reservedOriginsIn Nothing cs os = putWith 0 os (vacant cs) 0
 
--- a view with other columns
-abbrev pub withColumns : View → List Column → View
-withColumns v cs = viewAfter v cs (v .previous)
+-- what the columns carry after a reservation of n
+abbrev pub reservedOrigins : ℕ → List Column → List ℕ → List ℕ
+reservedOrigins n cs os = reservedOriginsIn (find n cs) cs os
+
+-- a view with other columns, other origins and another previous node column
+abbrev pub viewAfter : View → List Column → List ℕ → Found → View
+viewAfter v cs os p = record { columns = cs; origins = os; previous = p; height = v .height; stagger = v .stagger; style = v .style }
+
+-- a view with other columns and other origins
+abbrev pub withColumns : View → List Column → List ℕ → View
+withColumns v cs os = viewAfter v cs os (v .previous)
 
 -- the reserving call
 unfoldable pub reserve : View → ℕ → Reply
-reserve v n = answer (refusal (reserveChecks n (v .columns))) v (withColumns v (reserved n (v .columns)))
+reserve v n = answer (refusal (reserveChecks n (v .columns))) v (withColumns v (reserved n (v .columns)) (reservedOrigins n (v .columns) (v .origins)))
+
+-- ---- the query
+
+-- who started the line in a column that was found
+abbrev pub startedIn : Found → List Column → List ℕ → Started
+startedIn (At i) cs os = startedBy (at cs i) (originAt os i)
+startedIn Nothing cs os = NotWaiting
+
+-- "A query by id gives that node, none, or not waiting." (02, R-3)
+abbrev pub origin : View → ℕ → Started
+origin v n = startedIn (find n (v .columns)) (v .columns) (v .origins)
 
 -- ---- what the calls promise
 
@@ -125,7 +151,7 @@ pub record Fresh (o : Options) (r : Answer) : Type 0 where
 
 -- the slot of an id that a reservation makes wait
 abbrev pub reservedSlot : ℕ → Slot
-reservedSlot n = record { column = Reserved n }
+reservedSlot n = record { column = Reserved n; origin = 0 }
 
 -- the reserving call gives what the definition says; a refusal and an id already held leave the struct itself as it was;
 -- else the raw count is at most 64, and every slot but the one taken is as it was; the options stay

@@ -1,12 +1,13 @@
 // The shaper: its state, the new shaper call, the reserving call and the node's column, after graph_to_row_shape.rs.
 ghost use mathlib.Core.Path.{_≡_};
-ghost use Rattle.column.specs.Columns.{live, orElse};
-ghost use Rattle.shaper.specs.Shaper.{viewWith, fresh, refusedOptions, Fresh, Reserves};
+ghost use Rattle.column.specs.Columns.{live, origins, orElse};
+ghost use Rattle.shaper.specs.Shaper.{viewOf, viewWith, fresh, refusedOptions, origin as originOfId, Fresh, Reserves};
 ghost use Rattle.shaper.specs.NodeColumn.{headAt, unallocated, fitting, Finds};
 use column::COLUMN_LIMIT;
 use column::Column;
 use column::Found;
 use column::Slot;
+use column::Started;
 use render::ACCEPTED;
 use render::DashStyle;
 use render::HEIGHT_ABOVE_LIMIT;
@@ -86,7 +87,7 @@ fn find_column_for_unallocated_node(
     options: Options,
     previous_node_column: Found,
 ) -> usize
-    ensures { λ r. ⌜ r ≡ unallocated (viewWith (live count slots) «previous_node_column» options) ⌝ }
+    ensures { λ r. ⌜ r ≡ unallocated (viewWith (live count slots) (origins count slots) «previous_node_column» options) ⌝ }
 {
     if !options.stagger_consecutive_disconnected_nodes | (1 < options.min_row_height) {
         return column::vacant(slots, count);
@@ -112,7 +113,7 @@ pub fn find_column(
     previous_node_column: Found,
     existing: Found,
 ) -> Found
-    ensures { λ r. ⌜ Finds (orElse existing (unallocated (viewWith (live count slots) «previous_node_column» options))) r ⌝ }
+    ensures { λ r. ⌜ Finds (orElse existing (unallocated (viewWith (live count slots) (origins count slots) «previous_node_column» options))) r ⌝ }
 {
     let Found::At(index) = existing else {
         return within_limit(find_column_for_unallocated_node(
@@ -172,11 +173,23 @@ impl Shaper {
         }
         let column = Column::Reserved(node);
         let mut shaper = self;
-        shaper.slots[index] = Slot { column };
+        shaper.slots[index] = Slot { column, origin: 0 };
         shaper.count = column::count_with(count, index);
         Answer {
             refusal: ACCEPTED,
             shaper,
         }
+    }
+
+    // Who started an id's line.
+    pub fn origin(self, node: u32) -> Started
+        ensures { λ r. ⌜ r ≡ originOfId (viewOf self) node ⌝ }
+    {
+        let slots = self.slots;
+        let Found::At(index) = column::find(slots, self.count, node) else {
+            return Started::NotWaiting;
+        };
+        let slot = slots[index];
+        slot.started()
     }
 }

@@ -1,9 +1,16 @@
 -- Laws of the first n elements of a list, f of each: what an array and a count stand for, for any type.
-use Prim.Native.Nat.{ℕ, zero, suc, _<_, min}
-use mathlib.Core.Path.{_≡_, refl, ap, _∙_}
+use Prim.Native.Nat.{ℕ, zero, suc, _+_, _≤_, _<_, min, max}
+use mathlib.Core.Path.{_≡_, refl, sym, ap, _∙_}
+use mathlib.Core.Bool.{Bool, true, false}
 use mathlib.Core.List.{List, [], _∷_, _++_, map}
 use native.Mathlib.Nat.{not-suc-le-zero, le-of-suc-le-suc, zero-min, min-zero, suc-min-suc}
-use lib.ListN.{length, getD, take, set, length-take, length-map}
+use native.Mathlib.Omega.{arith}
+use lib.Dec.{ltb}
+use lib.ListN.{length, getD, take, set, length-take, length-map, List·getD-eq-default}
+use lib.Seq.{lt-length-set, set-out, getD-set-same}
+use borrow.Author.Tests.{ltb-true, ltb-false}
+use Rattle.slices.specs.Lists.{putWith}
+use Rattle.slices.proofs.Places.{put-inside, put-end}
 
 module _ {A B : Type 0} (f : A → B) where
   abbrev pub front : ℕ → List A → List B
@@ -39,3 +46,30 @@ module _ {A B : Type 0} (f : A → B) where
 
   pub front-clamp : (n count : ℕ) (l : List A) → n ≡ min count (length l) → front n l ≡ front count l
   front-clamp n count l e = rw e (front-min count l)
+
+  -- past the count, or the end, stands d
+  pub front-past : (n : ℕ) (l : List A) (i : ℕ) (d : B) → min n (length l) ≤ i → getD (front n l) i d ≡ d
+  front-past n l i d h = List·getD-eq-default (front n l) d {n = i} (rw length-front h)
+
+  -- x stored at i, and the count with it; past the end stands d, e is any other
+  module _ (d : B) (e : A) (count i m : ℕ) (l : List A) (x : A) (k : i < length l) (h : i ≤ length (front count l)) (q : m ≡ min (max count (i + 1)) (length l)) where
+    below : i < length (front count l) → front m (set l i x) ≡ putWith d (front count l) i (f x)
+    below g =
+        let z : m ≡ min count (length l) = omega (arith, length-front count l) in
+        rw (front-set m l i x, front-clamp m count l z, put-inside d (front count l) i (f x) g)
+
+    behind : length (front count l) ≤ i → front m (set l i x) ≡ putWith d (front count l) i (f x)
+    behind g =
+        let z : i ≡ min count (length l) = omega (arith, length-front count l) in
+        let n : m ≡ suc i = omega arith in
+        let o : length (front i l) ≤ i = rw length-front (omega arith) in
+        let y : i ≡ length (front count l) = omega arith in
+        rw (n, front-suc i (set l i x) e (lt-length-set l i x k), getD-set-same l i x e k, front-set i l i x, set-out (front i l) i (f x) o)
+        (rw (front-clamp i count l z) (sym (put-end d (front count l) (f x)) ∙ ap (λ (j : ℕ). putWith d (front count l) j (f x)) (sym y)))
+
+    pick : (b : Bool) → ltb i (length (front count l)) ≡ b → front m (set l i x) ≡ putWith d (front count l) i (f x)
+    pick true g = below (ltb-true _ _ g)
+    pick false g = behind (ltb-false _ _ g)
+
+    pub front-put : front m (set l i x) ≡ putWith d (front count l) i (f x)
+    front-put = pick (ltb i (length (front count l))) refl

@@ -59,7 +59,7 @@ module _ {records : List ℕ} {kept : Bool} {out₀ : List ℕ} where
 
       step-is : previewStep kept (stateOf s from out) b ≡ putStep kept (stateOf s from out) (g .refusal) (viewOf (shaperAfter s g)) bytes
       step-is =
-          ap (λ (r : PreviewReply). putStep kept (stateOf s from out) (r .refusal) (viewAfter (viewOf s) (r .columns) (At (r .column))) (previewBytes (r .column) (r .width) (length (r .columns))))
+          ap (λ (r : PreviewReply). putStep kept (stateOf s from out) (r .refusal) (viewAfter (viewOf s) (r .columns) (r .origins) (At (r .column))) (previewBytes (r .column) (r .width) (length (r .columns))))
           (sym replied)
 
       pub previews-refused : (g .refusal ≡ 0 → ⊥) → wholePreviews records kept out₀ ≡ record { rows = rows; output = out }

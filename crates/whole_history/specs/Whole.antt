@@ -94,7 +94,7 @@ shapeStep kept s b =
 abbrev pub previewStep : Bool → State → List ℕ → Option State
 previewStep kept s b =
     let r : PreviewReply = preview (s .view) (idAt b 0) (entriesOf b) in
-    putStep kept s (r .refusal) (viewAfter (s .view) (r .columns) (At (r .column))) (previewBytes (r .column) (r .width) (length (r .columns)))
+    putStep kept s (r .refusal) (viewAfter (s .view) (r .columns) (r .origins) (At (r .column))) (previewBytes (r .column) (r .width) (length (r .columns)))
 
 -- the row call on a record and the renderer call on its shape, with the record's mark; nothing where either is refused
 abbrev pub linesStep : Renderer → Bool → State → List ℕ → Option State

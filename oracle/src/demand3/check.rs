@@ -4,6 +4,9 @@ use crate::codes;
 use crate::column::Column;
 use crate::stream::Command;
 use crate::stream::Row;
+use crate::waiting;
+use crate::waiting::Wait;
+use crate::waiting::Waiting;
 
 use super::clauses::Clause;
 use super::clauses::Failing;
@@ -15,12 +18,10 @@ use super::lines::shown;
 use super::lines::Lines;
 use super::lines::Stroke;
 use super::lines::RENDERERS;
+use super::seen;
 use super::seen::Answers;
 use super::seen::Drawn;
 use super::seen::Seen;
-use super::waiting;
-use super::waiting::Wait;
-use super::waiting::Waiting;
 
 /// The first call after which a clause does not hold, and the clauses that fail there.
 pub struct Failure {
@@ -35,7 +36,7 @@ pub fn check(
     counts: &mut Counts,
 ) -> Option<Failure> {
     let (first, calls) = history.split_first().expect("a new shaper");
-    let mut check = Check::new(first, answers, counts);
+    let mut check = Check::new(first, seen::asked(history), answers, counts);
     let failing = check.fresh();
     if !failing.is_empty() {
         return Some(Failure { call: 0, failing });
@@ -56,10 +57,14 @@ pub fn check(
 /// A history on its way: the machine's answers, the account of the ids that wait, and what is kept of the calls before.
 struct Check<'a> {
     answers: &'a mut dyn Answers,
+    /// The ids that are asked for after each call.
+    asked: Vec<u32>,
     waiting: Waiting,
     columns: Vec<Column<u32>>,
     /// The node's column of the accepted row before.
     node: Option<usize>,
+    /// The node of the last accepted row.
+    drawn: Option<u32>,
     /// The foot lines of the accepted row before.
     above: [Vec<Stroke>; RENDERERS],
     most_columns: usize,
@@ -77,7 +82,12 @@ struct Made<'a> {
 
 impl<'a> Check<'a> {
     /// Begins with what the new shaper call gives. The line above the first row is blank.
-    fn new(first: &Command, answers: &'a mut dyn Answers, counts: &'a mut Counts) -> Self {
+    fn new(
+        first: &Command,
+        asked: Vec<u32>,
+        answers: &'a mut dyn Answers,
+        counts: &'a mut Counts,
+    ) -> Self {
         let Command::New(options) = first else {
             unreachable!("a new shaper")
         };
@@ -87,9 +97,11 @@ impl<'a> Check<'a> {
         }
         Self {
             answers,
+            asked,
             waiting: Waiting::default(),
             columns: begun.columns,
             node: None,
+            drawn: None,
             above: Default::default(),
             most_columns: 0,
             reservations: 0,
@@ -115,8 +127,10 @@ impl<'a> Check<'a> {
             waited: self.waiting.clone(),
         };
         self.waiting.take(call, seen.number != 0);
+        self.drawn = made.row.map(|row| row.node).or(self.drawn);
         self.count(call, &seen);
-        self.ids(&seen.columns);
+        self.ids(&seen.columns, &seen.origins);
+        self.answers();
         self.tidy(&seen.columns);
         self.moves(&made);
         self.row(&made);
@@ -129,7 +143,7 @@ impl<'a> Check<'a> {
     }
 
     /// The ids in the columns are those that wait, each in one column.
-    fn ids(&mut self, columns: &[Column<u32>]) {
+    fn ids(&mut self, columns: &[Column<u32>], origins: &[Option<u32>]) {
         let mut ids: Vec<_> = columns.iter().filter_map(codes::held).collect();
         ids.sort_unstable();
         let once = ids.windows(2).all(|pair| pair[0] != pair[1]);
@@ -140,11 +154,21 @@ impl<'a> Check<'a> {
             let found = || format!("id {id} waits, and the columns hold {ids:?}");
             self.failing.claim(Clause::Held, held, found);
         }
-        for column in columns {
+        for (column, origin) in columns.iter().zip(origins) {
             let wait = codes::held(column).and_then(|id| self.waiting.of(id));
-            let found = || format!("{column:?} is a column, and its id waits as {wait:?}");
-            self.failing
-                .claim(Clause::Waits, wait == waiting::said_by(column), found);
+            let found = || format!("{column:?} carries {origin:?}, and its id waits as {wait:?}");
+            let said = waiting::said_by(column, *origin);
+            self.failing.claim(Clause::Waits, wait == said, found);
+        }
+    }
+
+    /// The query gives what the account says.
+    fn answers(&mut self) {
+        for id in &self.asked {
+            let (given, due) = (self.answers.started(*id), self.waiting.started(*id));
+            let found = || format!("id {id}: {given:?} for {due:?}");
+            self.failing.claim(Clause::Answers, given == due, found);
+            self.counts.query(given, self.drawn);
         }
     }
 
@@ -241,7 +265,8 @@ impl<'a> Check<'a> {
         let foot = &lines.foot;
         let named = |column: usize| {
             let id = codes::held(column_at(columns, column));
-            id.and_then(|id| self.waiting.of(id)) == Some(Wait::Named)
+            let wait = id.and_then(|id| self.waiting.of(id));
+            matches!(wait, Some(Wait::Named(_)))
         };
         let strokes = (0..foot.len().max(columns.len()))
             .all(|column| cell(foot, column).is_stroke() == named(column));

@@ -9,6 +9,7 @@ pub enum Clause {
     Fresh,
     Held,
     Waits,
+    Answers,
     One,
     Unblocked,
     Full,
@@ -31,6 +32,7 @@ impl Clause {
             Clause::Fresh => "fresh",
             Clause::Held => "held",
             Clause::Waits => "waits",
+            Clause::Answers => "answers",
             Clause::One => "one",
             Clause::Unblocked => "unblocked",
             Clause::Full => "full",
@@ -54,7 +56,12 @@ impl Clause {
             Clause::Held => "every id that waits is in a column",
             Clause::Waits => {
                 "every id in a column waits, and as the column says: a Reserved one as \
-                reserved, an Ancestor or Parent one as named"
+                reserved, an Ancestor or Parent one as named, first by the node that the \
+                column carries"
+            }
+            Clause::Answers => {
+                "the query gives, for every id, the node that first named it, none if it was \
+                only reserved, not waiting if it does not wait"
             }
             Clause::One => "no id is in two columns",
             Clause::Unblocked => "no column is blocked",

@@ -2,6 +2,7 @@
 
 use std::collections::BTreeMap;
 
+use crate::origins::Started;
 use crate::stream::Command;
 
 /// The columns from which on a list counts as nearly full.
@@ -22,6 +23,11 @@ pub struct Counts {
     pub staggered: u64,
     pub dashed_to_solid: u64,
     pub reservations_between: u64,
+    /// Queries that gave a node, of these another than the last accepted row's, none, and not waiting.
+    pub nodes: u64,
+    pub earlier_nodes: u64,
+    pub unnamed: u64,
+    pub not_waiting: u64,
 }
 
 impl Counts {
@@ -32,6 +38,18 @@ impl Counts {
             _ => &mut self.refusals,
         };
         *refusals.entry(number).or_default() += 1;
+    }
+
+    /// Counts a query, with the node of the last accepted row.
+    pub fn query(&mut self, given: Started, last: Option<u32>) {
+        match given {
+            Started::By(node) => {
+                self.nodes += 1;
+                self.earlier_nodes += u64::from(Some(node) != last);
+            }
+            Started::Unnamed => self.unnamed += 1,
+            Started::NotWaiting => self.not_waiting += 1,
+        }
     }
 
     /// Prints each count.
@@ -54,5 +72,12 @@ impl Counts {
         println!("nodes placed by staggering {}", self.staggered);
         println!("dashed strokes that became solid {}", self.dashed_to_solid);
         println!("reservations between rows {}", self.reservations_between);
+        println!("queries that give a node {}", self.nodes);
+        println!(
+            "of these, another than the last row's {}",
+            self.earlier_nodes
+        );
+        println!("queries that give none {}", self.unnamed);
+        println!("queries that give not waiting {}", self.not_waiting);
     }
 }

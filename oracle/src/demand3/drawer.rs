@@ -1,15 +1,21 @@
 //! The Rust behind its calls, or a wrong machine in its place.
 
+use std::collections::BTreeMap;
+
 use crate::calls;
 use crate::calls::Shape;
 use crate::calls::Shaper;
+use crate::codes;
 use crate::column::Column;
 use crate::machine::Machine;
+use crate::origins::Origins;
+use crate::origins::Started;
 use crate::pipeline::types::DashStyle;
 use crate::stream::Command;
 use crate::stream::Letters;
 use crate::stream::Options;
 use crate::stream::Row;
+use crate::waiting;
 
 use super::faults::Fault;
 use super::faults::Outcome;
@@ -23,7 +29,6 @@ use super::seen::Drawn;
 use super::seen::Seen;
 use super::seen::View;
 use super::seen::Written;
-use super::waiting;
 
 /// The id that a stale shaper holds.
 const STALE: u32 = 77;
@@ -31,7 +36,11 @@ const STALE: u32 = 77;
 /// The Rust's machine, with a fault or none.
 pub struct Drawer {
     machine: Machine,
+    /// The Rust with nothing wrong, which makes the same calls; its origins are read by columns.
+    truth: Machine,
     fault: Option<Fault>,
+    /// The ids for which the fault carries a node of its own.
+    namers: BTreeMap<u32, u32>,
     dashes: DashStyle,
     /// Which mark is next.
     turn: u64,
@@ -41,12 +50,20 @@ pub struct Drawer {
     above: [Vec<Stroke>; RENDERERS],
 }
 
+/// What a call finds: the shaper, and what the column of its node carries, 0 where nothing.
+struct Before {
+    shaper: Shaper,
+    carried: u32,
+}
+
 impl Drawer {
     /// A machine that no call has been made on; the first row is drawn with the mark of this turn.
     pub fn new(fault: Option<Fault>, turn: u64) -> Self {
         Self {
             machine: Machine::new(&Letters::all()),
+            truth: Machine::new(&Letters::all()),
             fault,
+            namers: BTreeMap::new(),
             dashes: DashStyle::Persistent,
             turn,
             rows: 0,
@@ -56,14 +73,53 @@ impl Drawer {
 
     /// Makes a call and gives its refusal number, 0 for none.
     fn run(&mut self, call: &Command) -> u8 {
+        self.truth.run(call);
         self.machine.run(call).refusal().unwrap_or(0)
+    }
+
+    /// Who started the line of an id in truth.
+    fn true_start(&self, id: u32) -> Started {
+        let truth = &self.truth;
+        truth.origins.started(truth.shaper.columns(), id)
+    }
+
+    /// Who started the line of an id: as the truth says, but by the node that the fault carries, if it does.
+    fn start(&self, id: u32) -> Started {
+        let namer = self.namers.get(&id).copied();
+        match self.true_start(id) {
+            Started::By(first) => Started::By(namer.unwrap_or(first)),
+            other => other,
+        }
+    }
+
+    /// What a column carries, if it is Ancestor or Parent: what the machine carries for its id, else 0.
+    fn carried(&self, column: &Column<u32>) -> Option<u32> {
+        let id = codes::held(column).filter(|_| codes::is_named(column))?;
+        match self.start(id) {
+            Started::By(first) if self.fault != Some(Fault::Unkept) => Some(first),
+            _ => Some(0),
+        }
+    }
+
+    /// What a call finds.
+    fn before(&self, call: &Command) -> Before {
+        let carried = match waiting::row_of(call).map(|row| self.start(row.node)) {
+            Some(Started::By(first)) => first,
+            _ => 0,
+        };
+        Before {
+            shaper: self.machine.shaper.clone(),
+            carried,
+        }
     }
 
     /// What is seen of a call that draws nothing.
     fn seen(&self, number: u8) -> Seen {
+        let columns = self.machine.shaper.columns();
         Seen {
             number,
-            columns: self.machine.shaper.columns().clone(),
+            columns: columns.clone(),
+            origins: columns.iter().map(|column| self.carried(column)).collect(),
             drawn: None,
             differs: None,
         }
@@ -79,12 +135,12 @@ impl Drawer {
     }
 
     /// An accepted row or text call; a text call is held against the row call with its node and entries.
-    fn drawn(&mut self, before: &Shaper, call: &Command) -> Seen {
+    fn drawn(&mut self, before: &Before, call: &Command) -> Seen {
         if let Command::Text(_) = call {
-            self.spoil_text(before);
+            self.spoil_text(&before.shaper);
         }
         let row = waiting::row_of(call).expect("a row or text call");
-        match calls::row(before, row) {
+        match calls::row(&before.shaper, row) {
             Ok((counted, shape)) => {
                 let after = View::new(&self.machine.shaper);
                 let differs = seen::difference(&after, &View::new(&counted));
@@ -112,7 +168,7 @@ impl Drawer {
     }
 
     /// What an accepted row with this shape leaves and shows, after the fault.
-    fn outcome(&self, before: &Shaper, row: &Row, shape: &Shape) -> Outcome {
+    fn outcome(&mut self, before: &Before, row: &Row, shape: &Shape) -> Outcome {
         let mut outcome = Outcome {
             columns: self.machine.shaper.columns().clone(),
             drawn: Drawn {
@@ -121,7 +177,8 @@ impl Drawer {
             },
         };
         let row = TrueRow {
-            before: before.columns(),
+            before: before.shaper.columns(),
+            carried: before.carried,
             row,
             shape,
             later: self.rows > 0,
@@ -129,6 +186,7 @@ impl Drawer {
         };
         if let Some(fault) = self.fault {
             fault.spoil(&row, &mut outcome);
+            fault.take_names(&row, &mut self.namers);
         }
         outcome
     }
@@ -159,8 +217,9 @@ impl Drawer {
         }
     }
 
-    /// Puts other columns into the shaper.
+    /// Puts other columns into the shaper; what the machine itself reads of their origins is not looked at.
     fn set_columns(&mut self, columns: Vec<Column<u32>>) {
+        self.machine.origins = Origins::by_hand(&columns, &[]);
         let shaper = &self.machine.shaper;
         self.machine.shaper =
             Shaper::by_hand(columns, *shaper.options(), shaper.previous_node_column());
@@ -170,6 +229,8 @@ impl Drawer {
 impl Answers for Drawer {
     fn new_shaper(&mut self, options: &Options) -> Begun {
         let number = self.run(&Command::New(options.clone()));
+        self.truth.origins = Origins::by_columns();
+        self.machine.origins = Origins::by_columns();
         self.dashes = seen::dashes(options, number);
         if self.fault == Some(Fault::Stale) {
             self.set_columns(vec![Column::Parent(STALE)]);
@@ -181,11 +242,20 @@ impl Answers for Drawer {
     }
 
     fn call(&mut self, call: &Command) -> Seen {
-        let before = self.machine.shaper.clone();
+        let before = self.before(call);
         match (self.run(call), call) {
-            (0, Command::Reserve(id)) => self.reserved(&before, *id),
+            (0, Command::Reserve(id)) => self.reserved(&before.shaper, *id),
             (0, _) => self.drawn(&before, call),
             (number, _) => self.seen(number),
+        }
+    }
+
+    fn started(&self, id: u32) -> Started {
+        match self.start(id) {
+            Started::By(first) if first == id && self.fault == Some(Fault::UnnamedByItself) => {
+                Started::Unnamed
+            }
+            other => other,
         }
     }
 }

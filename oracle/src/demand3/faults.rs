@@ -1,17 +1,19 @@
-//! The wrong machines: each is the Rust's with one thing wrong, which acts on the columns, the node's column that is reported, or the strokes of the lines.
+//! The wrong machines: each is the Rust's with one thing wrong, which acts on the columns, the node's column that is reported, the strokes of the lines, or who started a line. Unless it says otherwise, a column carries what the Rust's carries for its id, and the query is the Rust's.
+
+use std::collections::BTreeMap;
 
 use crate::calls::Shape;
 use crate::column::Column;
 use crate::column::ColumnsExt;
 use crate::refusals;
 use crate::stream::Row;
+use crate::waiting;
 
 use super::lines;
 use super::lines::Lines;
 use super::lines::Stroke;
 use super::lines::RENDERERS;
 use super::seen::Drawn;
-use super::waiting;
 
 /// A node that is reported far right is reported in the column with the number of columns plus this.
 const FAR: usize = 7;
@@ -63,10 +65,20 @@ pub enum Fault {
     BlankLater,
     /// The id of a single entry to the right of the node stays where it is.
     Unswapping,
+    /// Each row that names an id makes its node the one that the id's column carries and the query gives.
+    LatestNamer,
+    /// An id named after, or in, its own row keeps the node of the row that named it first ever.
+    KeptOverOwnRow,
+    /// The id of a single entry that is swapped gets the node that the node's column carried before the row, 0 where that carried none.
+    LeftBehind,
+    /// The query gives none for an id that its own row named first.
+    UnnamedByItself,
+    /// Every column carries 0.
+    Unkept,
 }
 
 /// The wrong machines by name.
-const NAMES: [(&str, Fault); 22] = [
+const NAMES: [(&str, Fault); 27] = [
     ("stale", Fault::Stale),
     ("forgetting", Fault::Forgetting),
     ("keeping", Fault::Keeping),
@@ -89,11 +101,18 @@ const NAMES: [(&str, Fault); 22] = [
     ("untouched", Fault::Untouched),
     ("blank_later", Fault::BlankLater),
     ("unswapping", Fault::Unswapping),
+    ("latest_namer", Fault::LatestNamer),
+    ("kept_over_own_row", Fault::KeptOverOwnRow),
+    ("left_behind", Fault::LeftBehind),
+    ("unnamed_by_itself", Fault::UnnamedByItself),
+    ("unkept", Fault::Unkept),
 ];
 
 /// An accepted row as the Rust has it.
 pub struct TrueRow<'a> {
     pub before: &'a Vec<Column<u32>>,
+    /// What the node's column carried, 0 where nothing.
+    pub carried: u32,
     pub row: &'a Row,
     pub shape: &'a Shape,
     /// Whether a row was accepted before.
@@ -175,6 +194,18 @@ impl Fault {
             _ => {}
         }
     }
+
+    /// Takes an accepted row into the nodes that the fault carries in place of the true ones, by the ids whose lines they start.
+    pub fn take_names(self, row: &TrueRow, namers: &mut BTreeMap<u32, u32>) {
+        match self {
+            Fault::LatestNamer => namers.extend(row.named().map(|id| (id, row.row.node))),
+            Fault::KeptOverOwnRow => row.named().for_each(|id| {
+                namers.entry(id).or_insert(row.row.node);
+            }),
+            Fault::LeftBehind => row.leave_behind(namers),
+            _ => {}
+        }
+    }
 }
 
 impl TrueRow<'_> {
@@ -200,6 +231,19 @@ impl TrueRow<'_> {
         };
         let held = waiting::named(entry).and_then(|id| self.before.find(&id));
         held.filter(|held| *held > self.node())
+    }
+
+    /// The ids that the row names.
+    fn named(&self) -> impl Iterator<Item = u32> + '_ {
+        self.row.entries.iter().filter_map(waiting::named)
+    }
+
+    /// The id that is swapped gets what the node's column carried; the node's own line ends.
+    fn leave_behind(&self, namers: &mut BTreeMap<u32, u32>) {
+        namers.remove(&self.row.node);
+        if self.swapped().is_some() {
+            namers.extend(self.named().map(|id| (id, self.carried)));
+        }
     }
 
     /// Keeps the node's id as Reserved in the node's column.

@@ -1,11 +1,14 @@
 //! Our program's answers to histories. `replay` prints no shape for a text call, so that it runs twice: with the calls as they are, which gives
-//! each verdict and the shaper after it, and with each accepted text call replaced by the row call as which it counts, each accepted row drawn
+//! each verdict and the shaper after it, and queries behind each call; and with each accepted text call replaced by the row call as which it counts, each accepted row drawn
 //! by all renderers. No answer is the Rust's; the lists are made with its help.
 
+use std::collections::BTreeMap;
 use std::collections::VecDeque;
+use std::iter;
 
 use crate::column::Column;
 use crate::machine::OUTPUT;
+use crate::origins::Started;
 use crate::refusals;
 use crate::replay::Ended;
 use crate::replay::Replay;
@@ -13,6 +16,7 @@ use crate::stream::encode;
 use crate::stream::Command;
 use crate::stream::Drawing;
 use crate::stream::Options;
+use crate::waiting;
 
 use super::lines::RENDERERS;
 use super::printed::Printed;
@@ -24,7 +28,6 @@ use super::seen::Drawn;
 use super::seen::Seen;
 use super::seen::View;
 use super::seen::Written;
-use super::waiting;
 
 /// The most bytes that one command prints beside its output.
 const PRINTED: usize = 1 << 16;
@@ -33,8 +36,13 @@ const PRINTED: usize = 1 << 16;
 pub struct Answered {
     number: u8,
     fresh: Vec<Column<u32>>,
-    seen: VecDeque<Seen>,
+    seen: VecDeque<(Seen, Starts)>,
+    /// What the queries behind the last call gave.
+    starts: Starts,
 }
+
+/// What queries gave, by id.
+type Starts = BTreeMap<u32, Started>;
 
 impl Answers for Answered {
     fn new_shaper(&mut self, _options: &Options) -> Begun {
@@ -45,7 +53,13 @@ impl Answers for Answered {
     }
 
     fn call(&mut self, _call: &Command) -> Seen {
-        self.seen.pop_front().expect("an answer for each call")
+        let (seen, starts) = self.seen.pop_front().expect("an answer for each call");
+        self.starts = starts;
+        seen
+    }
+
+    fn started(&self, id: u32) -> Started {
+        self.starts[&id]
     }
 }
 
@@ -60,6 +74,8 @@ struct Answering<'a> {
     fresh: View,
     /// What each call gave: its refusal number and the shaper after it, of a row call all.
     given: Vec<Given>,
+    /// What the queries behind each call gave.
+    starts: Vec<Starts>,
 }
 
 /// What a call gave.
@@ -79,7 +95,10 @@ pub fn answers(
 ) -> Result<Vec<Answered>, String> {
     let lists = || (first..).zip(histories);
     let stream: Vec<_> = lists()
-        .flat_map(|(list, history)| [&[Command::List(list)], history.as_slice()].concat())
+        .flat_map(|(list, history)| {
+            let begin = iter::once(Command::List(list));
+            begin.chain(with_queries(history))
+        })
         .collect();
     let answering: Vec<_> = run(replay, &stream, |printed| {
         lists()
@@ -93,6 +112,20 @@ pub fn answers(
             .map(|history| history.draw(printed))
             .collect()
     })
+}
+
+/// A history with queries behind each of its calls but the new shaper.
+fn with_queries(history: &[Command]) -> Vec<Command> {
+    let queries: Vec<_> = seen::asked(history)
+        .into_iter()
+        .map(Command::Origin)
+        .collect();
+    let (new, calls) = history.split_at(1);
+    let calls = calls.iter().flat_map(|call| {
+        let call = iter::once(call.clone());
+        call.chain(queries.iter().cloned())
+    });
+    new.iter().cloned().chain(calls).collect()
 }
 
 /// Runs the program on these commands and reads all that it prints.
@@ -132,14 +165,20 @@ impl<'a> Answering<'a> {
         };
         printed.list(list)?;
         let (number, fresh) = printed.new_shaper()?;
-        let given = calls.iter().map(|call| given(call, printed));
+        let asked = seen::asked(history);
+        let (mut all_given, mut all_starts) = (Vec::new(), Vec::new());
+        for call in calls {
+            all_given.push(given(call, printed)?);
+            all_starts.push(starts(&asked, printed)?);
+        }
         Ok(Self {
             list,
             options,
             calls,
             number,
             fresh,
-            given: given.collect::<Result<_, _>>()?,
+            given: all_given,
+            starts: all_starts,
         })
     }
 
@@ -174,11 +213,15 @@ impl<'a> Answering<'a> {
         if printed.new_shaper()? != (self.number, self.fresh.clone()) {
             return Err("the program answers a new shaper call in two ways".to_owned());
         }
-        let seen = self.steps().map(|step| self.seen(&step, printed));
+        let mut seen = VecDeque::new();
+        for (step, starts) in self.steps().zip(&self.starts) {
+            seen.push_back((self.seen(&step, printed)?, starts.clone()));
+        }
         Ok(Answered {
             number: self.number,
             fresh: self.fresh.columns.clone(),
-            seen: seen.collect::<Result<_, _>>()?,
+            seen,
+            starts: Starts::new(),
         })
     }
 
@@ -195,6 +238,7 @@ impl<'a> Answering<'a> {
         Ok(Seen {
             number: step.given.number,
             columns: step.given.shaper.columns.clone(),
+            origins: step.given.shaper.origins.clone(),
             drawn,
             differs: step.difference(&second),
         })
@@ -279,6 +323,14 @@ impl Step<'_> {
         };
         differs.then(|| format!("{first:?} with text calls, {second:?} with their row calls"))
     }
+}
+
+/// Reads what the queries for these ids gave.
+fn starts(asked: &[u32], printed: &mut Printed) -> Result<Starts, String> {
+    asked
+        .iter()
+        .map(|id| Ok((*id, printed.origin()?)))
+        .collect()
 }
 
 /// Reads what a call gave.

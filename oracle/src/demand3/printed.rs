@@ -4,6 +4,7 @@ use std::str::FromStr;
 
 use crate::codes;
 use crate::column::Column;
+use crate::origins::Started;
 use crate::pipeline::types::DashStyle;
 use crate::pipeline::types::GraphRowShapeStyle;
 use crate::pipeline::types::LinkLinePlacement;
@@ -89,6 +90,15 @@ impl<'a> Printed<'a> {
         Ok((refusal(number)?, shaper))
     }
 
+    /// A query.
+    pub fn origin(&mut self) -> Read<Started> {
+        match behind(self.line()?, "origin ")? {
+            "not waiting" => Ok(Started::NotWaiting),
+            "none" => Ok(Started::Unnamed),
+            node => number(node).map(Started::By),
+        }
+    }
+
     /// A renderer call with an output of so many bytes: its refusal number and what it wrote.
     pub fn renderer(&mut self, output: usize) -> Read<(u8, &'a [u8])> {
         let [number, length] = numbers(self.line()?, "renderer ")?;
@@ -166,7 +176,8 @@ impl<'a> Printed<'a> {
             " columns=",
         ];
         let [height, stagger, dash, placement, previous, columns] = fields(self.line()?, names)?;
-        let columns: Vec<_> = items(columns).map(column).collect::<Read<_>>()?;
+        let columns: Vec<_> = items(columns).map(carrying).collect::<Read<_>>()?;
+        let (columns, origins): (Vec<_>, Vec<_>) = columns.into_iter().unzip();
         expect(columns.len() <= refusals::COLUMNS, || {
             format!("{} columns", columns.len())
         })?;
@@ -179,6 +190,7 @@ impl<'a> Printed<'a> {
                 column => Some(number(column)?),
             },
             columns,
+            origins,
         })
     }
 
@@ -325,6 +337,18 @@ fn style(dash: &str, placement: &str) -> Read<GraphRowShapeStyle> {
 /// Items joined by commas; none where there is nothing.
 fn items(text: &str) -> impl Iterator<Item = &str> {
     text.split(',').filter(move |_| !text.is_empty())
+}
+
+/// A column by name, and behind an Ancestor or Parent one the node that it carries.
+fn carrying(text: &str) -> Read<(Column<u32>, Option<u32>)> {
+    let (held, origin) = match text.split_once(" by ") {
+        Some((held, node)) => (column(held)?, Some(number(node)?)),
+        None => (column(text)?, None),
+    };
+    expect(codes::is_named(&held) == origin.is_some(), || {
+        format!("{text:?} is no column with its origin")
+    })?;
+    Ok((held, origin))
 }
 
 /// A column by name.

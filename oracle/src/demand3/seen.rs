@@ -1,12 +1,18 @@
 //! What is seen of a machine: its answers to the calls of a history.
 
+use std::collections::BTreeSet;
+use std::iter;
+
 use crate::calls::Shaper;
 use crate::codes;
 use crate::column::Column;
+use crate::origins::Started;
 use crate::pipeline::types::DashStyle;
 use crate::pipeline::types::GraphRowShapeStyle;
 use crate::stream::Command;
 use crate::stream::Options;
+use crate::stream::Row;
+use crate::waiting;
 
 use super::lines;
 use super::lines::Lines;
@@ -24,6 +30,9 @@ pub trait Answers {
 
     /// What is seen of the next reserving, row or text call.
     fn call(&mut self, call: &Command) -> Seen;
+
+    /// What the query gives for an id after that call; the id is one of those that are asked for.
+    fn started(&self, id: u32) -> Started;
 }
 
 /// What is seen of a new shaper call.
@@ -40,6 +49,8 @@ pub struct Seen {
     pub number: u8,
     /// The columns after the call.
     pub columns: Vec<Column<u32>>,
+    /// What each of them carries, if it is Ancestor or Parent.
+    pub origins: Vec<Option<u32>>,
     /// Of an accepted row or text call.
     pub drawn: Option<Drawn>,
     /// How a text call differs from the row call with its node and entries, if it does.
@@ -63,10 +74,11 @@ pub struct View {
     pub style: GraphRowShapeStyle,
     pub previous: Option<usize>,
     pub columns: Vec<Column<u32>>,
+    pub origins: Vec<Option<u32>>,
 }
 
 impl View {
-    /// What can be seen of the Rust's shaper.
+    /// What can be seen of the Rust's shaper, whose columns carry nothing.
     pub fn new(shaper: &Shaper) -> Self {
         let options = shaper.options();
         Self {
@@ -75,6 +87,7 @@ impl View {
             style: options.graph_row_shape_style,
             previous: shaper.previous_node_column(),
             columns: shaper.columns().clone(),
+            origins: Vec::new(),
         }
     }
 }
@@ -82,6 +95,26 @@ impl View {
 /// Words for the shaper after a text call, where it differs from the one after the row call.
 pub fn difference(text: &View, row: &View) -> Option<String> {
     (text != row).then(|| format!("the text call leaves {text:?}, the row call {row:?}"))
+}
+
+/// The ids that are asked for after each call of a history: every one that its calls reserve, draw or name, and one that none of them does.
+pub fn asked(history: &[Command]) -> Vec<u32> {
+    let mut ids = BTreeSet::new();
+    for call in history {
+        match call {
+            Command::Reserve(id) => ids.extend([*id]),
+            call => ids.extend(waiting::row_of(call).into_iter().flat_map(ids_of)),
+        }
+    }
+    let never = (0..=u32::MAX).rev().find(|id| !ids.contains(id));
+    ids.extend(never);
+    ids.into_iter().collect()
+}
+
+/// The node of a row, and the ids that it names.
+fn ids_of(row: &Row) -> impl Iterator<Item = u32> + '_ {
+    let named = row.entries.iter().filter_map(waiting::named);
+    iter::once(row.node).chain(named)
 }
 
 /// The mark with which a row is drawn; they take turns.

@@ -70,6 +70,7 @@ impl Generator<'_> {
             .map(|place| Slot {
                 kind: self.random.pick(&[2, 3, 4, 4]),
                 id: first + place,
+                origin: self.origin(),
             })
             .collect();
         for _ in 0..self.random.pick(&[0, 0, 1, 2, 5]) {
@@ -118,6 +119,16 @@ impl Generator<'_> {
         Slot {
             kind: self.random.pick(&[0, 0, 1, 2, 2, 3, 3, 4, 4, 4, 5]),
             id: self.id(),
+            origin: self.origin(),
+        }
+    }
+
+    /// What a slot carries, of whatever kind it is: an id of the list, nothing, or any number.
+    fn origin(&mut self) -> u32 {
+        match self.random.weighted(&[6, 2, 2]) {
+            0 => self.id(),
+            1 => 0,
+            _ => self.random.next() as u32,
         }
     }
 

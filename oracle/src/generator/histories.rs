@@ -2,6 +2,7 @@
 
 use std::ops::Range;
 
+use super::queries::QUERY;
 use super::values;
 use super::Generator;
 use super::Theme;
@@ -11,14 +12,14 @@ use crate::stream::Entry;
 use crate::stream::Letters;
 use crate::stream::Row;
 
-/// A history's weights of the letters N R W B V P T D S Q H X.
-const THEME: Theme = [0, 2, 4, 0, 0, 0, 3, 0, 0, 0, 0, 0];
+/// A history's weights of the letters N R W B V O P T D S Q H X.
+const THEME: Theme = [0, 2, 4, 0, 0, 0, 0, 3, 0, 0, 0, 0, 0];
 
-/// The history with this number: a new shaper, refused or not, then calls, refused ones among them.
+/// The history with this number: a new shaper, refused or not, then calls, refused ones among them. Queries are no calls of a history.
 pub fn history(seed: u64, number: u32) -> Vec<Command> {
     let mut random = Random::new(seed, u64::from(number));
     let ids = values::few_ids(&mut random);
-    let letters = Letters::all();
+    let letters = Letters::all().without(QUERY);
     let mut generator = Generator::new(random, &letters, ids, THEME);
     generator.fill_history();
     generator.commands

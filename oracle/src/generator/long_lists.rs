@@ -85,8 +85,8 @@ impl Generator<'_> {
         Row { node, entries }
     }
 
-    /// Draws a row by a text call, or by a row and a renderer call; a width call, a preview and a call with too short an output come now
-    /// and then.
+    /// Draws a row by a text call, or by a row and a renderer call; a width call, a preview, a query and a call with too short an output
+    /// come now and then.
     fn draw(&mut self, row: Row, by_text: bool) {
         if self.random.once_in(20) {
             self.push(Command::Width(Width::of(row.clone())));
@@ -94,10 +94,13 @@ impl Generator<'_> {
         if self.random.once_in(20) {
             self.push(Command::Preview(row.clone()));
         }
+        let command = Command::Row(row.clone());
         if by_text {
             self.draw_by_text(row);
+            self.ask_behind(&command);
         } else {
-            self.push(Command::Row(row));
+            self.push(command.clone());
+            self.ask_behind(&command);
             let mut drawing = self.passing_drawing();
             drawing.length = self.machine.renderer_need(&drawing).unwrap_or(0) as u32;
             self.push(Command::Renderer(drawing));

@@ -21,7 +21,8 @@ impl Generator<'_> {
         self.push(Command::Preview(row.clone()));
         if !self.random.once_in(4) {
             let command = self.follower(row);
-            self.push(command);
+            self.push(command.clone());
+            self.ask_behind(&command);
         }
     }
 

@@ -32,7 +32,7 @@ impl Previews {
             last.behind(kinds, command, answer);
         }
         match (command, answer) {
-            (Command::Preview(row), Answer::Preview(number, previewed)) => {
+            (Command::Preview(row), Answer::Preview(number, previewed, _)) => {
                 self.preview(kinds, *number, previewed);
                 self.last = Some(Last {
                     row: row.clone(),

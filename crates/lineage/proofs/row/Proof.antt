@@ -162,7 +162,7 @@ module _ {M : Type 1} (𝓤 : URA M) (H : Heap 𝓤) (A : Atoms 𝓤) (W : Given
           -- [the core's; true; the shaper's cell; the open borrow; obs; auth; the list's token; true; the list's; true; _6; …]
           assigns ! (of-opd ! (load ! (from ! (fld ! {τ = S′.mir} {d = 0} refl (stop !))) (look-in ! 12 (sub ! 0 {τ = S′.mir} {d = 0} refl (whole !))))) (from ! (hop ! (look ! 20 refl) (stop !)))
           (store-raw ! 2 refl (LL.lawful S.the-type S′.the-laws 𝓤 H A W .typed (r .shaper) (vals (r .shaper)) (shaper-is r _ isD) .0)) $
-          assigns ! (of-opd ! (load ! (from ! (fld ! {τ = N′.mir} {d = 552} refl (stop !))) (look-in ! 12 (sub ! 1 {τ = N′.mir} {d = 552} refl (whole !))))) (from ! (stop !)) (init ! 22 refl (LL.lawful N.the-type N′.the-laws 𝓤 H A W .typed (r .answer) (nvals (r .answer)) (answer-is r _ isD) .0)) $
+          assigns ! (of-opd ! (load ! (from ! (fld ! {τ = N′.mir} {d = 808} refl (stop !))) (look-in ! 12 (sub ! 1 {τ = N′.mir} {d = 808} refl (whole !))))) (from ! (stop !)) (init ! 22 refl (LL.lawful N.the-type N′.the-laws 𝓤 H A W .typed (r .answer) (nvals (r .answer)) (answer-is r _ isD) .0)) $
           -- s is closed at the shaper that the core gave
           drop ! $ drop ! $ closed ! tt S.the-type S′.the-laws S′.the-plain (r .shaper) (shaper-is r _ isD) b o $
           -- [obs; the borrow; s's token; the list's token; true; the list's; true; _6; …; _0; …]

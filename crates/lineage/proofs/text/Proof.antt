@@ -231,7 +231,7 @@ module _ {M : Type 1} (𝓤 : URA M) (H : Heap 𝓤) (A : Atoms 𝓤) (W : Given
           rewrite ! 23 (λ (k : Val). ‵ (fat fullShare D′.mir l₁₀ 0 k)) (ap only (LL.tells D.the-type D′.the-laws r (v ∷ []) isD)) refl $ drop ! $
           -- [coreToks; outLast; true1; tCell; tOpen; tObs; tAuth; sCell; sOpen; sObs; sAuth; listTok; listKept; msgKept; _14; _13; _12; _11; _10; _9; _8; _7; _6; _5; _4; _3; _2; _1; _0]: what the core gave is stored back
           assigns ! (of-opd ! (load ! (from ! (fld ! {τ = S′.mir} {d = 24} refl (stop !))) (look-in ! 22 (sub ! 3 {τ = S′.mir} {d = 24} refl (whole !))))) (from ! (hop ! (look ! 40 refl) (stop !))) (store-raw ! 7 refl (LL.lawful S.the-type S′.the-laws 𝓤 H A W .typed (r .shaper) _ (shaper-is r _ isD) .0)) $
-          assigns ! (of-opd ! (load ! (from ! (fld ! {τ = X′.mir} {d = 576} refl (stop !))) (look-in ! 22 (sub ! 4 {τ = X′.mir} {d = 576} refl (whole !))))) (from ! (hop ! (look ! 38 refl) (stop !))) (store-raw ! 3 refl (LL.lawful X.the-type X′.the-laws 𝓤 H A W .typed (r .state) _ (state-is r _ isD) .0)) $
+          assigns ! (of-opd ! (load ! (from ! (fld ! {τ = X′.mir} {d = 832} refl (stop !))) (look-in ! 22 (sub ! 4 {τ = X′.mir} {d = 832} refl (whole !))))) (from ! (hop ! (look ! 38 refl) (stop !))) (store-raw ! 3 refl (LL.lawful X.the-type X′.the-laws 𝓤 H A W .typed (r .state) _ (state-is r _ isD) .0)) $
           assigns ! (agg ! (and-then ! (load ! (from ! (fld ! {τ = tyInt w8} {d = 0} refl (stop !))) (look-in ! 22 (sub ! 0 {τ = tyInt w8} {d = 0} refl (whole !)))) (and-then ! (load ! (from ! (fld ! {τ = tyInt w64} {d = 8} refl (stop !))) (look-in ! 22 (sub ! 1 {τ = tyInt w64} {d = 8} refl (whole !)))) (and-then ! (load ! (from ! (fld ! {τ = tyInt w64} {d = 16} refl (stop !))) (look-in ! 22 (sub ! 2 {τ = tyInt w64} {d = 16} refl (whole !)))) (no-more !))))) (from ! (stop !)) (init ! 42 refl (LL.lawful N.the-type N′.the-laws 𝓤 H A W .typed (answer r) _ (answer-is r _ isD) .0)) $
           move ! (3 ∷ 4 ∷ 5 ∷ 6 ∷ []) $ closed ! tt X.the-type X′.the-laws X′.the-plain (r .state) (state-is r _ isD) (t .ptr .0) (t .ptr .1) $
           move ! (6 ∷ 7 ∷ 8 ∷ 9 ∷ []) $ closed ! tt S.the-type S′.the-laws S′.the-plain (r .shaper) (shaper-is r _ isD) (z .ptr .0) (z .ptr .1) $

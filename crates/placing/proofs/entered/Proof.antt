@@ -1,4 +1,4 @@
--- The slot of a column after an entry merged into it.
+-- The slot of a column after an entry of a row merged into it.
 use borrow.Author.Needs.{needs}
 use Rattle.placing.proofs.entered.Statement.{statement}
 use Rattle.placing.proofs.entered.Tie as tie
@@ -12,11 +12,11 @@ ancestor-to-column-requires c κs = search needs
 merge-requires : tie.Need-merge-requires
 merge-requires c κs = search needs
 
-with-column-requires : tie.Need-with-column-requires
-with-column-requires c κs = search needs
+origin-or-requires : tie.Need-origin-or-requires
+origin-or-requires c κs = search needs
 
 returns : tie.Need-returns
-returns c = rw (c .with-column .ensures, c .before .merge .ensures, c .before .before .ancestor-to-column .ensures, c .before .before .before .column-at .ensures)
+returns c = rw (c .origin-or .ensures, c .before .merge .ensures, c .before .before .ancestor-to-column .ensures, c .before .before .before .column-at .ensures)
 
 pub entered-spec : {M : Type 1} → statement M
 entered-spec =
@@ -25,5 +25,5 @@ entered-spec =
     column-at-requires
     ancestor-to-column-requires
     merge-requires
-    with-column-requires
+    origin-or-requires
     returns)

@@ -4,7 +4,7 @@ use Rattle.shaper.proofs.find_column_for_unallocated_node.Statement.{st
 use Rattle.shaper.proofs.find_column_for_unallocated_node.Tie as tie
 use mathlib.Core.Path.{sym, _∙_}
 use native.Mathlib.Omega.{arith}
-use Rattle.column.specs.Columns.{live}
+use Rattle.column.specs.Columns.{live, origins}
 use Rattle.slices.proofs.Front.{length-front}
 use Rattle.column.proofs.Laws.{columnOf}
 use Rattle.shaper.proofs.NodeLaws.{unallocated-plain, unallocated-first, unallocated-other, unallocated-skip, unallocated-last}
@@ -16,7 +16,7 @@ returns : tie.Need-returns
 returns c =
     let start = c .before .before .before .before in
     let a = start .args in
-    unallocated-plain (live (a .count) (a .slots)) (a .previous-node-column) (a .options) _ (c .before .if1 .taken) (c .vacant .ensures)
+    unallocated-plain (live (a .count) (a .slots)) (origins (a .count) (a .slots)) (a .previous-node-column) (a .options) _ (c .before .if1 .taken) (c .vacant .ensures)
 
 enum-known-previous-node-column : tie.Need-enum-known-previous-node-column
 enum-known-previous-node-column c = search needs
@@ -31,7 +31,7 @@ returns-2 : tie.Need-returns-2
 returns-2 c =
     let i = c .before .before .before in
     let a = i .before .before .before .args in
-    unallocated-first (live (a .count) (a .slots)) (a .previous-node-column) (a .options) (i .if1 .left) _ (c .before .enum-told .given .1) (c .vacant2 .ensures)
+    unallocated-first (live (a .count) (a .slots)) (origins (a .count) (a .slots)) (a .previous-node-column) (a .options) (i .if1 .left) _ (c .before .enum-told .given .1) (c .vacant2 .ensures)
 
 first-other-empty-requires : tie.Need-first-other-empty-requires
 first-other-empty-requires c κs = search needs
@@ -53,7 +53,7 @@ returns-3 c =
     let f = c .before .before .before .before in
     let i = f .before .before .before .before in
     let a = i .before .before .before .args in
-    unallocated-skip (live (a .count) (a .slots)) (a .previous-node-column) (a .options) (i .if1 .left) _ (f .before .before .previous-node-column .given .1) (sym (f .first-other-empty .ensures) ∙ c .before .before .enum-told2 .given .1) _
+    unallocated-skip (live (a .count) (a .slots)) (origins (a .count) (a .slots)) (a .previous-node-column) (a .options) (i .if1 .left) _ (f .before .before .previous-node-column .given .1) (sym (f .first-other-empty .ensures) ∙ c .before .before .enum-told2 .given .1) _
     (rw (length-front columnOf (a .count) (a .slots)) (omega (arith, c .before .live-count .ensures))) (c .if2 .taken)
 
 returns-4 : tie.Need-returns-4
@@ -61,7 +61,7 @@ returns-4 c =
     let f = c .before .before .before .before in
     let i = f .before .before .before .before in
     let a = i .before .before .before .args in
-    unallocated-last (live (a .count) (a .slots)) (a .previous-node-column) (a .options) (i .if1 .left) _ (f .before .before .previous-node-column .given .1) (sym (f .first-other-empty .ensures) ∙ c .before .before .enum-told2 .given .1) _
+    unallocated-last (live (a .count) (a .slots)) (origins (a .count) (a .slots)) (a .previous-node-column) (a .options) (i .if1 .left) _ (f .before .before .previous-node-column .given .1) (sym (f .first-other-empty .ensures) ∙ c .before .before .enum-told2 .given .1) _
     (rw (length-front columnOf (a .count) (a .slots)) (omega (arith, c .before .live-count .ensures))) (c .if2 .left)
 
 returns-5 : tie.Need-returns-5
@@ -69,7 +69,7 @@ returns-5 c =
     let f = c .before .before .before in
     let i = f .before .before .before .before in
     let a = i .before .before .before .args in
-    unallocated-other (live (a .count) (a .slots)) (a .previous-node-column) (a .options) (i .if1 .left) _ (f .before .before .previous-node-column .given .1) _ (sym (f .first-other-empty .ensures) ∙ c .before .index .given .1)
+    unallocated-other (live (a .count) (a .slots)) (origins (a .count) (a .slots)) (a .previous-node-column) (a .options) (i .if1 .left) _ (f .before .before .previous-node-column .given .1) _ (sym (f .first-other-empty .ensures) ∙ c .before .index .given .1)
 
 pub find-column-for-unallocated-node-spec : {M : Type 1} → statement M
 find-column-for-unallocated-node-spec =

@@ -6,10 +6,10 @@ use Prim.Native.Nat.{_≤_, _-_}
 use borrow.Author.Needs.{needs}
 
 abbrev Inv-loop : tie.InvT-loop
-Inv-loop payload at given slots₀ place₀ i₀ slots place i = i ≤ given
+Inv-loop payload at given slots₀ place₀ origin₀ i₀ slots place origin i = i ≤ given
 
 abbrev μ-loop : tie.MeasureT-loop
-μ-loop payload at given slots₀ place₀ i₀ slots place i = given - i
+μ-loop payload at given slots₀ place₀ origin₀ i₀ slots place origin i = given - i
 
 u8-at-requires : tie.Need-u8-at-requires Inv-loop μ-loop
 u8-at-requires c κs = search needs
@@ -26,6 +26,9 @@ empty-requires c κs = search needs
 after-requires : tie.Need-after-requires Inv-loop μ-loop
 after-requires c κs = search needs
 
+origins-at-requires : tie.Need-origins-at-requires Inv-loop μ-loop
+origins-at-requires c κs = search needs
+
 loop-holds : tie.Need-loop-holds Inv-loop μ-loop
 loop-holds c = search needs
 
@@ -40,6 +43,9 @@ array-set-from-slots c = search needs
 
 after-requires-2 : tie.Need-after-requires-2 Inv-loop μ-loop
 after-requires-2 c κs = search needs
+
+after-requires-3 : tie.Need-after-requires-3 Inv-loop μ-loop
+after-requires-3 c κs = search needs
 
 add-i : tie.Need-add-i Inv-loop μ-loop
 add-i c = search needs
@@ -64,11 +70,13 @@ slots-at-spec =
     live-count-requires
     empty-requires
     after-requires
+    origins-at-requires
     loop-holds
     slot-at-requires
     mul-slots
     array-set-from-slots
     after-requires-2
+    after-requires-3
     add-i
     loop-less
     loop-again
