@@ -1,7 +1,7 @@
 -- Laws of the end of a row: the slots as they are after it, and those trimmed.
 use Prim.Native.Nat.{ℕ, zero, suc, _+_, _≤_, _<_, min}
 use mathlib.Core.Path.{_≡_, refl, ap, ap₂, sym, _∙_}
-use mathlib.Core.Bool.{Bool, true, false, cond, not, false≢true}
+use mathlib.Core.Bool.{Bool, true, false, cond, false≢true}
 use mathlib.Core.List.{List, [], _∷_, map}
 use native.Mathlib.Nat.{not-suc-le-zero, le-of-suc-le-suc}
 use native.Mathlib.Omega.{arith}
@@ -36,15 +36,6 @@ pub record Ends (slots : List Slot) (count column : ℕ) (o : Options) (r : Shap
   pub rest : SpareEmpty (r .count) (r .slots)
   pub previous : r .«previous_node_column» ≡ At column
   pub options : r .options ≡ o
-
--- what a test of the opposite says
-pub not-true : (b : Bool) → not b ≡ true → b ≡ false
-not-true true h = sym h
-not-true false h = refl
-
-pub not-false : (b : Bool) → not b ≡ false → b ≡ true
-not-false true h = refl
-not-false false h = sym h
 
 -- ---- the slot of a column after a row: one that is not named, and one that is, by the dash style
 pub ended-unnamed : (d : DashStyle) (s : Slot) → isNamed (s .column) ≡ false → _≡_ {A = Slot} (record { column = unblock (s .column); origin = 0 }) (endedSlot d s)

@@ -81,7 +81,7 @@ rowChecks es p = (tooManyEntries when tooMany es) ∷ (nodeLineTooWide when ltb 
 abbrev pub columnsAfter : View → Placed → List Column
 columnsAfter v p = reset (solidOnce (v .style .«dash_style») (p .settled))
 
--- the shaper after a row of the node n
+-- the shaper after a row of the node n: "Every occupied column now also carries the node" (02, R-3)
 abbrev pub rowAfter : View → ℕ → Placed → View
 rowAfter v n p = viewAfter v (columnsAfter v p) (cellsFrom (originAfter n p (v .origins)) 0 (length (columnsAfter v p))) (At (p .column))
 

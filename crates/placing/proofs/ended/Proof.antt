@@ -1,9 +1,10 @@
 -- The slot of a column after a row: by whether its id is named, and the dash style.
 use borrow.Author.Needs.{needs}
+use borrow.Author.Tests.{not-true, not-false}
 use mathlib.Core.Path.{sym, _∙_}
 use Rattle.placing.proofs.ended.Statement.{statement}
 use Rattle.placing.proofs.ended.Tie as tie
-use Rattle.placing.proofs.EndLaws.{not-true, not-false, ended-unnamed, ended-persistent, ended-once}
+use Rattle.placing.proofs.EndLaws.{ended-unnamed, ended-persistent, ended-once}
 
 is-named-requires : tie.Need-is-named-requires
 is-named-requires c κs = search needs

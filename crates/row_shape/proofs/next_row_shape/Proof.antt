@@ -1,6 +1,7 @@
 -- The row call: the walk over the entries keeps `Going` and `Carrying`, the loops over the cells keep the cells that are stored, and those that
 -- end the row the slots that are filled, and what is left of the columns.
 use borrow.Author.Needs.{needs}
+use borrow.Author.Tests.{not-true, not-false}
 use Rattle.row_shape.proofs.next_row_shape.Statement.{statement}
 use Rattle.row_shape.proofs.next_row_shape.Tie as tie
 use Prim.Native.Nat.{_≤_, _-_}
@@ -11,7 +12,7 @@ use lib.ListN.{length, length-set}
 use Rattle.column.specs.declared.Column.the-variants.{Empty}
 use Rattle.column.specs.Columns.{columnLimit, isParent, trim, put, live}
 use Rattle.column.proofs.Laws.{trim-turn, trim-stop, trim-done}
-use Rattle.placing.proofs.EndLaws.{not-true, not-false, Filling, filling-start, filling-next, filling-done}
+use Rattle.placing.proofs.EndLaws.{Filling, filling-start, filling-next, filling-done}
 use Rattle.render.specs.Entries.{given}
 use Rattle.shaper.specs.Shaper.{viewOf}
 use Rattle.shaper.proofs.Laws.{slots-long, entries-long}
