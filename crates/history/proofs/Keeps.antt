@@ -70,7 +70,7 @@ number-told : (r : ℕ) (v : View) (n : ℕ) (es : List Entry) (p : Placed) → 
 number-told zero v n es p = refl
 number-told (suc r) v n es p = refl
 
-row-reply : (v : View) (n : ℕ) (es : List Entry) (r : ℕ) → row v n es .refusal ≡ r
+pub row-reply : (v : View) (n : ℕ) (es : List Entry) (r : ℕ) → row v n es .refusal ≡ r
     → row v n es ≡ rowAnswer r v n es (placeAt (nodeColumn v n) es (put (v .columns) (nodeColumn v n) Empty))
 unfolding row place
 row-reply v n es r h =

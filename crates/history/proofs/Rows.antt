@@ -218,7 +218,7 @@ pub never-other : (f : List Stroke) (cs : List Column) → Shows f cs → (i : �
 never-other f cs S i e = pad-known (padOf (at cs i)) (sym (S i) ∙ e)
 
 -- ---- a whole row, placed: its lines and its columns
-gave-in : (c : ℕ) (es : List Entry) (cs : List Column) (q : ℕ) → gaveUp c es cs ≡ At q → q < length (walk c es cs)
+pub gave-in : (c : ℕ) (es : List Entry) (cs : List Column) (q : ℕ) → gaveUp c es cs ≡ At q → q < length (walk c es cs)
 gave-in c [] cs q e = let z : _≡_ {A = ℕ} 0 1 = cc in absurd (omega arith)
 gave-in c (e ∷ f ∷ es) cs q h = let z : _≡_ {A = ℕ} 0 1 = cc in absurd (omega arith)
 gave-in c (e ∷ []) cs q h = go (ltb c (parentColumn c e cs)) h
@@ -269,7 +269,7 @@ module _ (v : View) (n : ℕ) (es : List Entry) where
   cells = take width (cellsFrom cellAt 0 width ++ replicate (columnLimit - width) blankCell)
 
   -- a line of the shape, from what each of its cells shows
-  line-is : (h : Cell → Stroke) → map h cells ≡ cellsFrom (λ i. h (cellAt i)) 0 width
+  pub line-is : {A : Type 0} (h : Cell → A) → map h cells ≡ cellsFrom (λ i. h (cellAt i)) 0 width
   line-is h =
       ap (map h) (take-at (cellsFrom cellAt 0 width) (replicate (columnLimit - width) blankCell) width (length-cells cellAt blankCell 0 width))
       ∙ map-cells h cellAt 0 width

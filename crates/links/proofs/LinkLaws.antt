@@ -1,11 +1,13 @@
 -- Laws of the definitions in specs/Links.antt: how far the entries' columns reach.
 use Prim.Native.Nat.{ℕ, zero, suc, _+_, _≤_, _<_, min, max}
 use mathlib.Core.Path.{_≡_, refl, ap, _∙_, sym}
+use mathlib.Core.Logic.{_⊎_, inl, inr}
 use mathlib.Core.Bool.{Bool, true, false, cond, not, _&&_, _||_}
 use borrow.Author.Tests.{ne-eqb, le-ltb}
 use mathlib.Core.List.{List, [], _∷_}
 use native.Mathlib.Numerals.{add-one}
 use native.Mathlib.Omega.{arith}
+use native.Mathlib.Decide.{decLt}
 use lib.ListN.{length, getD, drop, drop-of-length-le}
 use lib.Seq.{drop-cons}
 use lib.Dec.{ltb, eqb}
@@ -46,11 +48,11 @@ min-assoc x y z = omega arith
 max-assoc : (x y z : ℕ) → max (max x y) z ≡ max x (max y z)
 max-assoc x y z = omega arith
 
-leftmost-within : (t : Drawn → Bool) (ds : List Drawn) (i c : ℕ) → min c (leftmost t ds i c) ≡ leftmost t ds i c
+pub leftmost-within : (t : Drawn → Bool) (ds : List Drawn) (i c : ℕ) → min c (leftmost t ds i c) ≡ leftmost t ds i c
 leftmost-within t [] i c = omega arith
 leftmost-within t (m ∷ ds) i c = omega (arith, leftmost-within t ds (suc i) c)
 
-rightmost-within : (t : Drawn → Bool) (ds : List Drawn) (i c : ℕ) → max c (rightmost t ds i c) ≡ rightmost t ds i c
+pub rightmost-within : (t : Drawn → Bool) (ds : List Drawn) (i c : ℕ) → max c (rightmost t ds i c) ≡ rightmost t ds i c
 rightmost-within t [] i c = omega arith
 rightmost-within t (m ∷ ds) i c = omega (arith, rightmost-within t ds (suc i) c)
 
@@ -205,12 +207,12 @@ passing-is b w i d h e g = rw (not-drawn d e, h, g, none (ltb (b .target) i), no
 -- ---- columns that a row does not reach
 
 -- a column that an entry met lies between the outermost ones
-leftmost-at : (ds : List Drawn) (i c j : ℕ) → isDrawn (getD ds j Nobody) ≡ true → leftmost isDrawn ds i c ≤ i + j
+pub leftmost-at : (ds : List Drawn) (i c j : ℕ) → isDrawn (getD ds j Nobody) ≡ true → leftmost isDrawn ds i c ≤ i + j
 leftmost-at [] i c j e = let z : _≡_ {A = ℕ} 0 1 = cc in absurd (omega arith)
 leftmost-at (m ∷ ds) i c zero e = rw e (omega arith)
 leftmost-at (m ∷ ds) i c (suc j) e = omega (arith, leftmost-at ds (suc i) c j e)
 
-rightmost-at : (ds : List Drawn) (i c j : ℕ) → isDrawn (getD ds j Nobody) ≡ true → i + j ≤ rightmost isDrawn ds i c
+pub rightmost-at : (ds : List Drawn) (i c j : ℕ) → isDrawn (getD ds j Nobody) ≡ true → i + j ≤ rightmost isDrawn ds i c
 rightmost-at [] i c j e = let z : _≡_ {A = ℕ} 0 1 = cc in absurd (omega arith)
 rightmost-at (m ∷ ds) i c zero e = rw e (omega arith)
 rightmost-at (m ∷ ds) i c (suc j) e = omega (arith, rightmost-at ds (suc i) c j e)
@@ -222,7 +224,7 @@ direct-drawn Indirect h = refl
 direct-drawn Direct h = refl
 direct-drawn Anonymous h = refl
 
-leftmost-direct : (ds : List Drawn) (i c : ℕ) → leftmost isDrawn ds i c ≤ leftmost isDirectlyDrawn ds i c
+pub leftmost-direct : (ds : List Drawn) (i c : ℕ) → leftmost isDrawn ds i c ≤ leftmost isDirectlyDrawn ds i c
 leftmost-direct [] i c = omega arith
 leftmost-direct (m ∷ ds) i c = go (leftmost-direct ds (suc i) c) (isDirectlyDrawn m) refl (isDrawn m) refl
   where
@@ -233,7 +235,7 @@ leftmost-direct (m ∷ ds) i c = go (leftmost-direct ds (suc i) c) (isDirectlyDr
     go more false p true q = omega (arith, more, leftmost-within isDrawn ds (suc i) c)
     go more false p false q = omega (arith, more)
 
-rightmost-direct : (ds : List Drawn) (i c : ℕ) → rightmost isDirectlyDrawn ds i c ≤ rightmost isDrawn ds i c
+pub rightmost-direct : (ds : List Drawn) (i c : ℕ) → rightmost isDirectlyDrawn ds i c ≤ rightmost isDrawn ds i c
 rightmost-direct [] i c = omega arith
 rightmost-direct (m ∷ ds) i c = go (rightmost-direct ds (suc i) c) (isDirectlyDrawn m) refl (isDrawn m) refl
   where
@@ -243,6 +245,36 @@ rightmost-direct (m ∷ ds) i c = go (rightmost-direct ds (suc i) c) (isDirectly
     go more true p false q = let z : _≡_ {A = Bool} false true = sym q ∙ direct-drawn m p in let y : _≡_ {A = ℕ} 0 1 = cc in absurd (omega arith)
     go more false p true q = omega (arith, more, rightmost-within isDrawn ds (suc i) c)
     go more false p false q = omega (arith, more)
+
+-- the leftmost column is the node's, or one that passes the test
+pub leftmost-is : (t : Drawn → Bool) (ds : List Drawn) (i c : ℕ) → (leftmost t ds i c ≡ c) ⊎ ((j : ℕ) × (t (getD ds j Nobody) ≡ true) × (leftmost t ds i c ≡ i + j))
+leftmost-is t [] i c = inl refl
+leftmost-is t (d ∷ ds) i c = go (leftmost-is t ds (suc i) c) (t d) refl (decLt (leftmost t ds (suc i) c) (cond (t d) i c))
+  where
+    l : ℕ
+    l = leftmost t ds (suc i) c
+
+    go : (l ≡ c) ⊎ ((j : ℕ) × (t (getD ds j Nobody) ≡ true) × (l ≡ suc i + j)) → (b : Bool) → t d ≡ b → Dec (l < cond b i c)
+        → (min (cond b i c) l ≡ c) ⊎ ((j : ℕ) × (t (getD (d ∷ ds) j Nobody) ≡ true) × (min (cond b i c) l ≡ i + j))
+    go (inl e) b q (yes h) = inl (omega arith)
+    go (inr e) b q (yes h) = inr (suc (e .0), e .1, omega (arith, e .2))
+    go more true q (no h) = inr (zero, q, omega arith)
+    go more false q (no h) = inl (omega arith)
+
+-- and so is the rightmost one
+pub rightmost-is : (t : Drawn → Bool) (ds : List Drawn) (i c : ℕ) → (rightmost t ds i c ≡ c) ⊎ ((j : ℕ) × (t (getD ds j Nobody) ≡ true) × (rightmost t ds i c ≡ i + j))
+rightmost-is t [] i c = inl refl
+rightmost-is t (d ∷ ds) i c = go (rightmost-is t ds (suc i) c) (t d) refl (decLt (cond (t d) i c) (rightmost t ds (suc i) c))
+  where
+    r : ℕ
+    r = rightmost t ds (suc i) c
+
+    go : (r ≡ c) ⊎ ((j : ℕ) × (t (getD ds j Nobody) ≡ true) × (r ≡ suc i + j)) → (b : Bool) → t d ≡ b → Dec (cond b i c < r)
+        → (max (cond b i c) r ≡ c) ⊎ ((j : ℕ) × (t (getD (d ∷ ds) j Nobody) ≡ true) × (max (cond b i c) r ≡ i + j))
+    go (inl e) b q (yes h) = inl (omega arith)
+    go (inr e) b q (yes h) = inr (suc (e .0), e .1, omega (arith, e .2))
+    go more true q (no h) = inr (zero, q, omega arith)
+    go more false q (no h) = inl (omega arith)
 
 -- what holds of a column that the row does not reach
 pub record Unreached (b : AncestorColumnBounds) (w : Swap) (ds : List Drawn) (i : ℕ) : Type 0 where

@@ -49,7 +49,7 @@ up-inside c (e ∷ []) bs h = go (ltb c (parentColumn c e bs))
 up-inside c (e ∷ f ∷ es) bs h = omega (arith, walk-more c (e ∷ f ∷ es) bs)
 
 -- a column that is given up lies right of the node's
-up-right : (c : ℕ) (es : List Entry) (bs : List Column) (p : ℕ) → gaveUp c es bs ≡ At p → c < p
+pub up-right : (c : ℕ) (es : List Entry) (bs : List Column) (p : ℕ) → gaveUp c es bs ≡ At p → c < p
 up-right c [] bs p u = let z : _≡_ {A = ℕ} 0 1 = cc in absurd (omega arith)
 up-right c (e ∷ []) bs p u = go (ltb c (parentColumn c e bs)) refl u
   where

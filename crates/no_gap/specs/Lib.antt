@@ -1,0 +1,4 @@
+pub mod NoGap
+pub mod EntryColumns
+pub mod OurLinks
+pub mod Wrong
