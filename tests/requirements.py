@@ -1,12 +1,12 @@
 #!/usr/bin/env python3
-"""What docs/REQUIREMENTS.md names is there, and every must-fail edit and every mutant of demand 3 is named in it.
+"""What docs/REQUIREMENTS.md names is there, and every must-fail edit and every mutant of demand 3 and of R-9 is named in it.
 
 Each name in backquotes, but for those in the quotations of document 01 (a table's left column), is looked up:
 - `a/path`: a file or folder, below crates/ unless it begins with one of PLACES, or a must-fail edit, `crate/label`;
 - `path` `a`, `b`, and `a`, `b` of `path`: defined in that file;
 - `crate::function`, `crate::Type::function`: a function of that crate, with a contract;
 - `T` (`a`), `T` (its field `a`), field `a` of `T`: stands in a definition of T, or in T's contract;
-- crate, program, test or mutant `a`: one of these, a mutant as `test` and oracle/src/demand3/faults.rs name it;
+- crate, program, test or mutant `a`: one of these, a mutant as `test` and a file of MUTANTS name it;
 - any other: a crate, or defined in some file of the crates."""
 import glob
 import os
@@ -19,7 +19,8 @@ sys.dont_write_bytecode = True
 from common import read_text
 
 DOCUMENT = "docs/REQUIREMENTS.md"
-FAULTS = "oracle/src/demand3/faults.rs"
+# the lists of mutants in `test`, each with the file of the Rust side that has the same ones
+MUTANTS = {"wrong_machines": "oracle/src/demand3/faults.rs", "broken_links": "oracle/src/no_gap/faults.rs"}
 PLACES = ("oracle/", "tests/", "examples/", "docs/", "crates/", "./")
 
 # names in backquotes that are nothing of ours: words of the language and of the document, and files of a program
@@ -34,6 +35,19 @@ BEGINS = {
 PART = r"(?m)^ {4}(?:pub )?(\w+(?=: )|[A-Z]\w*(?=,$|\())"
 # a function's head, which ends where its body begins
 HEAD = r"(?ms)^(?:pub(?:\(crate\))? )?(?:extern \"C\" )?fn %s\b.*?^\{$"
+
+
+def listed(variable):
+    """The mutants that a list of `test` names."""
+    return set(re.findall(r"(?m)^(\w+) ", re.search(rf"(?s)\n{variable}='(.*?)'", read_text("test"))[1]))
+
+
+def uneven():
+    """Mutants that only one of `test` and the file of the Rust side names, and names that stand for two mutants."""
+    named = [(path, listed(variable), set(re.findall(r'\("(\w+)", Fault::', read_text(path)))) for variable, path in MUTANTS.items()]
+    for path, tried, built in named:
+        yield from (f"only one of `test` and {path} names the mutant `{name}`" for name in sorted(tried ^ built))
+    yield from (f"two mutants have the name `{name}`" for name in sorted(set.intersection(*(tried for _, tried, _ in named))))
 
 
 def stands(name, texts):
@@ -66,7 +80,7 @@ class Sources:
         self.files = {path: Source(path) for path in paths}
         self.crates = {line.split(":")[0] for line in read_text("crates.txt").splitlines()}
         self.tests = set(re.findall(r"(?m)^ *check (\S+)", read_text("test")))
-        self.mutants = set(re.findall(r"(?m)^(\w+) ", re.search(r"(?s)wrong_machines='(.*?)'", read_text("test"))[1]))
+        self.mutants = set.union(*map(listed, MUTANTS))
         self.names = set.union(self.crates, *(file.names for file in self.files.values()))
 
     def heads(self, name):
@@ -189,7 +203,7 @@ def main():
     edits = [path.split("/") for path in sorted(glob.glob("crates/*/must-fail/*.edit"))]
     names = [f"{crate}/{os.path.splitext(file)[0]}" for _, crate, _, file in edits]
     faults = reader.faults + [f"{DOCUMENT} does not name the must-fail edit `{name}`" for name in names if name not in reader.edits]
-    faults += [f"only one of `test` and {FAULTS} names the mutant `{name}`" for name in sorted(reader.sources.mutants ^ set(re.findall(r'\("(\w+)", Fault::', read_text(FAULTS))))]
+    faults += uneven()
     faults += [f"{DOCUMENT} does not name the mutant `{name}`" for name in sorted(reader.sources.mutants - reader.mutants)]
     for fault in faults:
         print(fault)

@@ -198,7 +198,7 @@ fn shape(out: &mut Vec<u8>, shape: &Shape) {
 }
 
 /// The names of a link cell's marks.
-fn marks(cell: &LinkLine) -> String {
+pub fn marks(cell: &LinkLine) -> String {
     let names: Vec<_> = codes::marks()
         .filter(|(_, mark)| cell.contains(*mark))
         .map(|(name, _)| name)

@@ -11,6 +11,7 @@ mod pieces;
 mod previews;
 mod queries;
 mod record_calls;
+mod rows_by_hand;
 mod values;
 
 use crate::machine::Machine;
@@ -28,6 +29,7 @@ use crate::stream::ALL_LETTERS;
 
 pub use drawings::drawings;
 pub use histories::history;
+pub use rows_by_hand::rows_by_hand;
 
 /// What the commands of a list are mostly about, as weights of the letters in `ALL_LETTERS`.
 type Theme = [u64; ALL_LETTERS.len()];

@@ -14,6 +14,7 @@ mod machine;
 mod marked;
 mod measure;
 mod measured_lines;
+mod no_gap;
 mod origins;
 mod programs;
 mod queried_lines;
@@ -28,6 +29,7 @@ mod renderdag;
 mod replay;
 mod shrink;
 mod stream;
+mod trial;
 mod vectors;
 mod waiting;
 mod watch;
@@ -53,11 +55,11 @@ use cells::Part;
 use cells::PARTS;
 use compare::Source;
 use compare::Task;
-use demand3::Fault;
-use demand3::Whose;
 use record_compare::Program;
 use replay::Replay;
 use stream::Letters;
+use trial::Whose;
+use trial::Wrong;
 
 /// How the program is called.
 const USAGE: &str = "usage: oracle answer [--built LETTERS]
@@ -66,6 +68,7 @@ const USAGE: &str = "usage: oracle answer [--built LETTERS]
        oracle cells [--part K]
        oracle cells-compare REPLAY [--part K] [--built LETTERS] [--threads N] [--timeout S]
        oracle demand3 N SEED [--mutant NAME | --ours REPLAY] [--timeout S]
+       oracle no_gap N SEED [--mutant NAME | --ours REPLAY] [--timeout S]
        oracle vectors [--built LETTERS]
        oracle page
        oracle listing
@@ -101,7 +104,7 @@ fn main() -> ExitCode {
     }
 }
 
-/// Runs the subcommand; no where a comparison found a difference or demand 3 fails.
+/// Runs the subcommand; no where a comparison found a difference, or demand 3 or R-9 fails.
 fn run(arguments: &Arguments) -> Result<bool, String> {
     let done = match arguments.plain(0)?.as_str() {
         "answer" => answer(&arguments.letters()),
@@ -113,7 +116,8 @@ fn run(arguments: &Arguments) -> Result<bool, String> {
         "compare" => return Ok(generated(arguments)?.run()),
         "cells" => cells::write(&arguments.parts()?, &mut io::stdout().lock()),
         "cells-compare" => return Ok(cells::compare(&drawn(arguments)?)),
-        "demand3" => return demand_3(arguments),
+        "demand3" => return demand3::run(&trial(arguments)?),
+        "no_gap" => return no_gap::run(&trial(arguments)?),
         "vectors" => print(&vectors::stream(&arguments.letters())),
         "page" => input().and_then(|records| programs::page(&records, &mut io::stdout().lock())),
         "listing" => {
@@ -216,19 +220,18 @@ fn task(arguments: &Arguments, lists: u32, source: Source, place: usize) -> Resu
     })
 }
 
-/// Tries demand 3, of the Rust, of a wrong machine or of our program.
-fn demand_3(arguments: &Arguments) -> Result<bool, String> {
+/// What a statement is to be tried on: the answers of the Rust, of a wrong machine or of our program.
+fn trial<F: Wrong>(arguments: &Arguments) -> Result<trial::Task<F>, String> {
     let whose = match (arguments.option("--mutant"), arguments.option("--ours")) {
         (Some(_), Some(_)) => return Err("a mutant is not ours".to_owned()),
         (None, Some(path)) => Whose::Ours(program(arguments, path)?),
-        (name, None) => Whose::Rust(name.map(Fault::new).transpose()?),
+        (name, None) => Whose::Rust(name.map(F::new).transpose()?),
     };
-    let task = demand3::Task {
+    Ok(trial::Task {
         lists: arguments.number(1)?,
         seed: arguments.number(2)?,
         whose,
-    };
-    task.run()
+    })
 }
 
 /// All of standard input.

@@ -94,6 +94,11 @@ pub fn named(entry: &Entry) -> Option<u32> {
     }
 }
 
+/// Whether the row has one entry, and that names the id.
+pub fn is_one_entry(row: &Row, id: u32) -> bool {
+    matches!(row.entries.as_slice(), [entry] if named(entry) == Some(id))
+}
+
 /// How the id that a column holds waits, as the column and what it carries say.
 pub fn said_by(column: &Column<u32>, origin: Option<u32>) -> Option<Wait> {
     match column {

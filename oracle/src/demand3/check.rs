@@ -4,50 +4,41 @@ use crate::codes;
 use crate::column::Column;
 use crate::stream::Command;
 use crate::stream::Row;
+use crate::trial;
+use crate::trial::cell;
+use crate::trial::column_at;
+use crate::trial::places;
+use crate::trial::shown;
+use crate::trial::Answers;
+use crate::trial::Drawn;
+use crate::trial::Failing;
+use crate::trial::Failure;
+use crate::trial::Lines;
+use crate::trial::Seen;
+use crate::trial::Stroke;
+use crate::trial::RENDERERS;
 use crate::waiting;
 use crate::waiting::Wait;
 use crate::waiting::Waiting;
 
 use super::clauses::Clause;
-use super::clauses::Failing;
 use super::counts::Counts;
 use super::counts::NEARLY_FULL;
-use super::lines;
-use super::lines::cell;
-use super::lines::shown;
-use super::lines::Lines;
-use super::lines::Stroke;
-use super::lines::RENDERERS;
-use super::seen;
-use super::seen::Answers;
-use super::seen::Drawn;
-use super::seen::Seen;
-
-/// The first call after which a clause does not hold, and the clauses that fail there.
-pub struct Failure {
-    pub call: usize,
-    pub failing: Failing,
-}
 
 /// Tries demand 3 on a history: a new shaper, then reserving, row and text calls. It is left where a clause fails.
 pub fn check(
     history: &[Command],
     answers: &mut dyn Answers,
     counts: &mut Counts,
-) -> Option<Failure> {
+) -> Option<Failure<Clause>> {
     let (first, calls) = history.split_first().expect("a new shaper");
-    let mut check = Check::new(first, seen::asked(history), answers, counts);
-    let failing = check.fresh();
-    if !failing.is_empty() {
-        return Some(Failure { call: 0, failing });
+    let mut check = Check::new(first, trial::asked(history), answers, counts);
+    if let Some(failure) = Failure::after(0, check.fresh()) {
+        return Some(failure);
     }
     for (call, place) in calls.iter().zip(1..) {
-        let failing = check.step(call);
-        if !failing.is_empty() {
-            return Some(Failure {
-                call: place,
-                failing,
-            });
+        if let Some(failure) = Failure::after(place, check.step(call)) {
+            return Some(failure);
         }
     }
     check.end();
@@ -70,7 +61,7 @@ struct Check<'a> {
     most_columns: usize,
     reservations: u64,
     counts: &'a mut Counts,
-    failing: Failing,
+    failing: Failing<Clause>,
 }
 
 /// A call that was made: the row as which it counts where it is an accepted one, what was seen of it, and the ids that waited before it.
@@ -88,10 +79,7 @@ impl<'a> Check<'a> {
         answers: &'a mut dyn Answers,
         counts: &'a mut Counts,
     ) -> Self {
-        let Command::New(options) = first else {
-            unreachable!("a new shaper")
-        };
-        let begun = answers.new_shaper(options);
+        let begun = answers.begin(first);
         if begun.number != 0 {
             counts.refused(first, begun.number);
         }
@@ -111,7 +99,7 @@ impl<'a> Check<'a> {
     }
 
     /// Gives the clause that fails of the new shaper, if it does.
-    fn fresh(&mut self) -> Failing {
+    fn fresh(&mut self) -> Failing<Clause> {
         let columns = &self.columns;
         let found = || format!("the columns are {columns:?}");
         self.failing.claim(Clause::Fresh, columns.is_empty(), found);
@@ -119,7 +107,7 @@ impl<'a> Check<'a> {
     }
 
     /// Makes a call and gives the clauses that fail after it.
-    fn step(&mut self, call: &Command) -> Failing {
+    fn step(&mut self, call: &Command) -> Failing<Clause> {
         let seen = self.answers.call(call);
         let made = Made {
             row: waiting::row_of(call).filter(|_| seen.number == 0),
@@ -194,7 +182,7 @@ impl<'a> Check<'a> {
     /// Such an id changes column exactly when it has to, and then to the node's: every column before against every column after.
     fn moves_of(&mut self, made: &Made, id: u32) {
         let node = made.seen.drawn.as_ref().map(|drawn| drawn.node);
-        let single = made.row.is_some_and(|row| is_one_entry(row, id));
+        let single = made.row.is_some_and(|row| waiting::is_one_entry(row, id));
         let mut swaps = false;
         for from in places(&self.columns, id) {
             let due = single && node.is_some_and(|node| node < from);
@@ -282,13 +270,13 @@ impl<'a> Check<'a> {
     /// Head line: equal to the line above, except that a dashed stroke over the node becomes solid.
     fn head(&mut self, node: usize, renderer: usize, lines: &Lines) {
         let above = &self.above[renderer];
-        let due = lines::head_below(above, node);
+        let due = trial::head_below(above, node);
         let found = || {
             let (above, head) = (shown(above), shown(&lines.head));
             format!("renderer {renderer}: above {above}, head {head}, node {node}")
         };
         self.failing
-            .claim(Clause::Meets, lines::equal(&lines.head, &due), found);
+            .claim(Clause::Meets, trial::equal(&lines.head, &due), found);
         let turned = cell(above, node) == Stroke::Dashed;
         self.counts.dashed_to_solid += u64::from(turned && renderer == 0);
     }
@@ -317,20 +305,4 @@ impl<'a> Check<'a> {
         self.counts.lists += 1;
         self.counts.nearly_full += u64::from(self.most_columns >= NEARLY_FULL);
     }
-}
-
-/// Whether the row has one entry, and that names the id.
-fn is_one_entry(row: &Row, id: u32) -> bool {
-    matches!(row.entries.as_slice(), [entry] if waiting::named(entry) == Some(id))
-}
-
-/// The columns of an id.
-fn places(columns: &[Column<u32>], id: u32) -> impl Iterator<Item = usize> + '_ {
-    let holds = move |place: &usize| codes::held(&columns[*place]) == Some(id);
-    (0..columns.len()).filter(holds)
-}
-
-/// The column at a place; past the last one it is Empty.
-fn column_at(columns: &[Column<u32>], place: usize) -> &Column<u32> {
-    columns.get(place).unwrap_or(&Column::Empty)
 }

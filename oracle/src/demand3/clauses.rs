@@ -1,7 +1,6 @@
-//! The clauses of demand 3, and which of them fail after a call.
+//! The clauses of demand 3.
 
-use std::collections::BTreeMap;
-use std::collections::BTreeSet;
+use crate::trial;
 
 /// The clauses, in the order in which they are printed.
 #[derive(Clone, Copy, Debug, PartialEq, Eq, PartialOrd, Ord)]
@@ -25,9 +24,9 @@ pub enum Clause {
     Counts,
 }
 
-impl Clause {
-    /// The clause's name, that of its field in the statement; `written` and `counts` are no fields.
-    pub fn name(self) -> &'static str {
+impl trial::Clause for Clause {
+    /// The name of the clause's field in the statement; `written` and `counts` are no fields.
+    fn name(self) -> &'static str {
         match self {
             Clause::Fresh => "fresh",
             Clause::Held => "held",
@@ -49,7 +48,6 @@ impl Clause {
         }
     }
 
-    /// The clause in words.
     fn words(self) -> &'static str {
         match self {
             Clause::Fresh => "a new shaper has no columns",
@@ -94,41 +92,4 @@ impl Clause {
             Clause::Counts => "a text call counts as the row call with its node and entries",
         }
     }
-}
-
-/// The clauses that fail after a call, each with what stands there first.
-#[derive(Debug, Default)]
-pub struct Failing(BTreeMap<Clause, String>);
-
-impl Failing {
-    /// Tries a clause, with words for what was found where it does not hold.
-    pub fn claim(&mut self, clause: Clause, holds: bool, found: impl FnOnce() -> String) {
-        if !holds {
-            self.0.entry(clause).or_insert_with(found);
-        }
-    }
-
-    /// Whether every clause holds.
-    pub fn is_empty(&self) -> bool {
-        self.0.is_empty()
-    }
-
-    /// The clauses that fail.
-    pub fn clauses(&self) -> BTreeSet<Clause> {
-        self.0.keys().copied().collect()
-    }
-
-    /// Prints each clause that fails: its name, its words, and what was found.
-    pub fn print(&self) {
-        for (clause, found) in &self.0 {
-            println!("  {}: {}", clause.name(), clause.words());
-            println!("    found: {found}");
-        }
-    }
-}
-
-/// The names of clauses, joined by blanks.
-pub fn names(clauses: &BTreeSet<Clause>) -> String {
-    let names: Vec<_> = clauses.iter().map(|clause| clause.name()).collect();
-    names.join(" ")
 }

@@ -2,23 +2,22 @@
 
 use std::collections::BTreeMap;
 
-use crate::calls::Shape;
+use crate::calls::Shaper;
 use crate::column::Column;
 use crate::column::ColumnsExt;
+use crate::origins::Started;
 use crate::refusals;
-use crate::stream::Row;
-use crate::waiting;
+use crate::trial;
+use crate::trial::trimmed;
+use crate::trial::Outcome;
+use crate::trial::Stroke;
+use crate::trial::TrueRow;
+use crate::trial::Wrong;
 
-use super::lines;
-use super::lines::Lines;
-use super::lines::Stroke;
-use super::lines::RENDERERS;
-use super::seen::Drawn;
+/// The id that a stale shaper holds.
+const STALE: u32 = 77;
 
-/// A node that is reported far right is reported in the column with the number of columns plus this.
-const FAR: usize = 7;
-
-/// What a wrong machine does. What it does with a row it does with the row of a text call, too.
+/// What a wrong machine does.
 #[derive(Clone, Copy, Debug, PartialEq, Eq)]
 pub enum Fault {
     /// A new shaper holds an id.
@@ -77,74 +76,45 @@ pub enum Fault {
     Unkept,
 }
 
-/// The wrong machines by name.
-const NAMES: [(&str, Fault); 27] = [
-    ("stale", Fault::Stale),
-    ("forgetting", Fault::Forgetting),
-    ("keeping", Fault::Keeping),
-    ("doubling", Fault::Doubling),
-    ("blocking", Fault::Blocking),
-    ("untrimmed", Fault::Untrimmed),
-    ("reversing", Fault::Reversing),
-    ("pulling", Fault::Pulling),
-    ("far_from_own", Fault::FarFromOwn),
-    ("on_another", Fault::OnAnother),
-    ("far_right", Fault::FarRight),
-    ("blank_feet", Fault::BlankFeet),
-    ("reserved_drawn", Fault::ReservedDrawn),
-    ("garbling", Fault::Garbling),
-    ("blank_heads", Fault::BlankHeads),
-    ("dashed_over_node", Fault::DashedOverNode),
-    ("unwritten", Fault::Unwritten),
-    ("previous_lost", Fault::PreviousLost),
-    ("text_ignored", Fault::TextIgnored),
-    ("untouched", Fault::Untouched),
-    ("blank_later", Fault::BlankLater),
-    ("unswapping", Fault::Unswapping),
-    ("latest_namer", Fault::LatestNamer),
-    ("kept_over_own_row", Fault::KeptOverOwnRow),
-    ("left_behind", Fault::LeftBehind),
-    ("unnamed_by_itself", Fault::UnnamedByItself),
-    ("unkept", Fault::Unkept),
-];
+impl Wrong for Fault {
+    const NAMES: &'static [(&'static str, Fault)] = &[
+        ("stale", Fault::Stale),
+        ("forgetting", Fault::Forgetting),
+        ("keeping", Fault::Keeping),
+        ("doubling", Fault::Doubling),
+        ("blocking", Fault::Blocking),
+        ("untrimmed", Fault::Untrimmed),
+        ("reversing", Fault::Reversing),
+        ("pulling", Fault::Pulling),
+        ("far_from_own", Fault::FarFromOwn),
+        ("on_another", Fault::OnAnother),
+        ("far_right", Fault::FarRight),
+        ("blank_feet", Fault::BlankFeet),
+        ("reserved_drawn", Fault::ReservedDrawn),
+        ("garbling", Fault::Garbling),
+        ("blank_heads", Fault::BlankHeads),
+        ("dashed_over_node", Fault::DashedOverNode),
+        ("unwritten", Fault::Unwritten),
+        ("previous_lost", Fault::PreviousLost),
+        ("text_ignored", Fault::TextIgnored),
+        ("untouched", Fault::Untouched),
+        ("blank_later", Fault::BlankLater),
+        ("unswapping", Fault::Unswapping),
+        ("latest_namer", Fault::LatestNamer),
+        ("kept_over_own_row", Fault::KeptOverOwnRow),
+        ("left_behind", Fault::LeftBehind),
+        ("unnamed_by_itself", Fault::UnnamedByItself),
+        ("unkept", Fault::Unkept),
+    ];
 
-/// An accepted row as the Rust has it.
-pub struct TrueRow<'a> {
-    pub before: &'a Vec<Column<u32>>,
-    /// What the node's column carried, 0 where nothing.
-    pub carried: u32,
-    pub row: &'a Row,
-    pub shape: &'a Shape,
-    /// Whether a row was accepted before.
-    pub later: bool,
-    /// The foot lines of the accepted row before.
-    pub above: &'a [Vec<Stroke>; RENDERERS],
-}
-
-/// What an accepted row leaves and shows.
-pub struct Outcome {
-    pub columns: Vec<Column<u32>>,
-    pub drawn: Drawn,
-}
-
-impl Fault {
-    /// The fault with this name.
-    pub fn new(name: &str) -> Result<Fault, String> {
-        let found = NAMES.iter().find(|(known, _)| *known == name);
-        found.map(|(_, fault)| *fault).ok_or_else(|| {
-            let names = NAMES.map(|(name, _)| name).join(" ");
-            format!("{name} is no mutant; these are: {names}")
-        })
+    fn fresh(self, columns: Vec<Column<u32>>) -> Vec<Column<u32>> {
+        match self {
+            Fault::Stale => vec![Column::Parent(STALE)],
+            _ => columns,
+        }
     }
 
-    /// The fault's name.
-    pub fn name(self) -> &'static str {
-        let found = NAMES.iter().find(|(_, fault)| *fault == self);
-        found.expect("every fault has a name").0
-    }
-
-    /// The columns after an accepted reservation, in place of those that the Rust leaves.
-    pub fn reserved(
+    fn reserved(
         self,
         before: &Vec<Column<u32>>,
         id: u32,
@@ -167,14 +137,23 @@ impl Fault {
         }
     }
 
-    /// Does to an accepted row what the fault says.
-    pub fn spoil(self, row: &TrueRow, outcome: &mut Outcome) {
+    fn written(self, before: &Shaper, after: Shaper) -> Shaper {
+        let (columns, options) = (after.columns().clone(), *after.options());
+        match self {
+            Fault::TextIgnored => {
+                let previous = after.previous_node_column();
+                Shaper::by_hand(before.columns().clone(), options, previous)
+            }
+            Fault::PreviousLost => Shaper::by_hand(columns, options, None),
+            _ => after,
+        }
+    }
+
+    fn spoil(self, row: &TrueRow, outcome: &mut Outcome) {
         match self {
             Fault::Keeping => row.keep(outcome),
             Fault::Blocking => row.block(outcome),
-            Fault::Untrimmed => outcome
-                .columns
-                .resize(row.shape.row.node_line.len(), Column::Empty),
+            Fault::Untrimmed => outcome.columns.resize(row.width(), Column::Empty),
             Fault::Pulling => row.pull(outcome),
             Fault::FarFromOwn if row.is_held() => row.far_with_line_above(outcome),
             Fault::OnAnother if row.is_beside() => row.on_last(outcome),
@@ -195,8 +174,7 @@ impl Fault {
         }
     }
 
-    /// Takes an accepted row into the nodes that the fault carries in place of the true ones, by the ids whose lines they start.
-    pub fn take_names(self, row: &TrueRow, namers: &mut BTreeMap<u32, u32>) {
+    fn take_names(self, row: &TrueRow, namers: &mut BTreeMap<u32, u32>) {
         match self {
             Fault::LatestNamer => namers.extend(row.named().map(|id| (id, row.row.node))),
             Fault::KeptOverOwnRow => row.named().for_each(|id| {
@@ -206,36 +184,26 @@ impl Fault {
             _ => {}
         }
     }
+
+    fn carried(self, node: u32) -> u32 {
+        match self {
+            Fault::Unkept => 0,
+            _ => node,
+        }
+    }
+
+    fn answer(self, id: u32, started: Started) -> Started {
+        match self {
+            Fault::UnnamedByItself if started == Started::By(id) => Started::Unnamed,
+            _ => started,
+        }
+    }
 }
 
 impl TrueRow<'_> {
-    /// The node's column.
-    fn node(&self) -> usize {
-        self.shape.row.node_column
-    }
-
-    /// Whether a column holds the node's id.
-    fn is_held(&self) -> bool {
-        self.before.find(&self.row.node).is_some()
-    }
-
     /// Whether no column holds the node's id, there are columns, and none of them is Empty.
     fn is_beside(&self) -> bool {
         !self.is_held() && !self.before.is_empty() && self.before.first_empty().is_none()
-    }
-
-    /// The column of the single entry that is swapped.
-    fn swapped(&self) -> Option<usize> {
-        let [entry] = self.row.entries.as_slice() else {
-            return None;
-        };
-        let held = waiting::named(entry).and_then(|id| self.before.find(&id));
-        held.filter(|held| *held > self.node())
-    }
-
-    /// The ids that the row names.
-    fn named(&self) -> impl Iterator<Item = u32> + '_ {
-        self.row.entries.iter().filter_map(waiting::named)
     }
 
     /// The id that is swapped gets what the node's column carried; the node's own line ends.
@@ -268,7 +236,7 @@ impl TrueRow<'_> {
 
     /// Puts the id that is swapped into a new last column, behind all columns of the row.
     fn pull(&self, outcome: &mut Outcome) {
-        let width = self.shape.row.node_line.len();
+        let width = self.width();
         if self.swapped().is_none() || width >= refusals::COLUMNS {
             return;
         }
@@ -277,23 +245,6 @@ impl TrueRow<'_> {
         let pulled = std::mem::replace(&mut columns[self.node()], Column::Empty);
         columns.push(pulled);
         outcome.draw_feet();
-    }
-
-    /// Undoes the swap, if there is one, and draws the foot line from the columns.
-    fn unswap(&self, outcome: &mut Outcome) {
-        if let Some(right) = self.swapped() {
-            let mut columns = std::mem::take(&mut outcome.columns);
-            columns.resize(columns.len().max(right + 1), Column::Empty);
-            columns.swap(self.node(), right);
-            outcome.columns = trimmed(columns);
-        }
-        outcome.draw_feet();
-    }
-
-    /// Reports the node far right of the columns, without a swap.
-    fn far(&self, outcome: &mut Outcome) {
-        self.unswap(outcome);
-        outcome.drawn.node = self.before.len() + FAR;
     }
 
     /// Reports the node far right of the columns, without a swap; the head line is the line above.
@@ -327,27 +278,12 @@ impl TrueRow<'_> {
     /// Gives each head line the cells that demand 3 has below the line above.
     fn meet(&self, outcome: &mut Outcome, node: usize) {
         outcome.alter(|renderer, lines| {
-            lines.head = lines::head_below(&self.above[renderer], node);
+            lines.head = trial::head_below(&self.above[renderer], node);
         });
     }
 }
 
 impl Outcome {
-    /// Alters the lines of each renderer.
-    fn alter(&mut self, change: impl Fn(usize, &mut Lines)) {
-        for (renderer, lines) in self.drawn.lines.iter_mut().enumerate() {
-            if let Ok(lines) = lines {
-                change(renderer, lines);
-            }
-        }
-    }
-
-    /// Draws each foot line from the columns.
-    fn draw_feet(&mut self) {
-        let feet = lines::drawn_from(&self.columns);
-        self.alter(|_, lines| lines.foot.clone_from(&feet));
-    }
-
     /// Draws a solid stroke below every reserved column.
     fn draw_reserved(&mut self) {
         let columns = self.columns.clone();
@@ -362,13 +298,6 @@ impl Outcome {
             }
         });
     }
-}
-
-/// Columns without the Empty ones at their end.
-fn trimmed(mut columns: Vec<Column<u32>>) -> Vec<Column<u32>> {
-    let used = columns.iter().rposition(|it| *it != Column::Empty);
-    columns.truncate(used.map_or(0, |last| last + 1));
-    columns
 }
 
 /// Blanks a line.

@@ -1,4 +1,4 @@
-//! Histories for demand 3: one new shaper, then reserving, row and text calls of any content.
+//! Histories for demand 3 and R-9: one new shaper, then reserving, row and text calls of any content.
 
 use std::ops::Range;
 

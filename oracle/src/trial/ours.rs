@@ -1,4 +1,4 @@
-//! Our program's answers to histories. `replay` prints no shape for a text call, so that it runs twice: with the calls as they are, which gives
+//! Our program's answers to lists. `replay` prints no shape for a text call, so that it runs twice: with the calls as they are, which gives
 //! each verdict and the shaper after it, and queries behind each call; and with each accepted text call replaced by the row call as which it counts, each accepted row drawn
 //! by all renderers. No answer is the Rust's; the lists are made with its help.
 
@@ -15,7 +15,6 @@ use crate::replay::Replay;
 use crate::stream::encode;
 use crate::stream::Command;
 use crate::stream::Drawing;
-use crate::stream::Options;
 use crate::waiting;
 
 use super::lines::RENDERERS;
@@ -32,7 +31,7 @@ use super::seen::Written;
 /// The most bytes that one command prints beside its output.
 const PRINTED: usize = 1 << 16;
 
-/// The answers to one history.
+/// The answers to one list.
 pub struct Answered {
     number: u8,
     fresh: Vec<Column<u32>>,
@@ -45,7 +44,7 @@ pub struct Answered {
 type Starts = BTreeMap<u32, Started>;
 
 impl Answers for Answered {
-    fn new_shaper(&mut self, _options: &Options) -> Begun {
+    fn begin(&mut self, _opening: &Command) -> Begun {
         Begun {
             number: self.number,
             columns: self.fresh.clone(),
@@ -63,13 +62,13 @@ impl Answers for Answered {
     }
 }
 
-/// A history that the first run has answered.
+/// A list that the first run has answered.
 struct Answering<'a> {
-    /// The list's number, from which on the marks take turns.
+    /// Its number, from which on the marks take turns.
     list: u32,
-    options: &'a Options,
+    opening: &'a Command,
     calls: &'a [Command],
-    /// What the new shaper call gave.
+    /// What the command gave that it begins with.
     number: u8,
     fresh: View,
     /// What each call gave: its refusal number and the shaper after it, of a row call all.
@@ -87,45 +86,39 @@ struct Given {
     row: Option<RowAnswer>,
 }
 
-/// Our program's answers to histories; the first is the list with this number.
+/// Our program's answers to lists; the first has this number.
 pub fn answers(
     replay: &Replay,
     first: u32,
-    histories: &[Vec<Command>],
+    lists: &[Vec<Command>],
 ) -> Result<Vec<Answered>, String> {
-    let lists = || (first..).zip(histories);
-    let stream: Vec<_> = lists()
-        .flat_map(|(list, history)| {
-            let begin = iter::once(Command::List(list));
-            begin.chain(with_queries(history))
+    let numbered = || (first..).zip(lists);
+    let stream: Vec<_> = numbered()
+        .flat_map(|(number, list)| {
+            let begin = iter::once(Command::List(number));
+            begin.chain(with_queries(list))
         })
         .collect();
     let answering: Vec<_> = run(replay, &stream, |printed| {
-        lists()
-            .map(|(list, history)| Answering::read(list, history, printed))
+        numbered()
+            .map(|(number, list)| Answering::read(number, list, printed))
             .collect()
     })?;
     let stream: Vec<_> = answering.iter().flat_map(Answering::commands).collect();
     run(replay, &stream, |printed| {
-        answering
-            .iter()
-            .map(|history| history.draw(printed))
-            .collect()
+        answering.iter().map(|list| list.draw(printed)).collect()
     })
 }
 
-/// A history with queries behind each of its calls but the new shaper.
-fn with_queries(history: &[Command]) -> Vec<Command> {
-    let queries: Vec<_> = seen::asked(history)
-        .into_iter()
-        .map(Command::Origin)
-        .collect();
-    let (new, calls) = history.split_at(1);
+/// A list with queries behind each of its calls but the first command.
+fn with_queries(list: &[Command]) -> Vec<Command> {
+    let queries: Vec<_> = seen::asked(list).into_iter().map(Command::Origin).collect();
+    let (opening, calls) = list.split_at(1);
     let calls = calls.iter().flat_map(|call| {
         let call = iter::once(call.clone());
         call.chain(queries.iter().cloned())
     });
-    new.iter().cloned().chain(calls).collect()
+    opening.iter().cloned().chain(calls).collect()
 }
 
 /// Runs the program on these commands and reads all that it prints.
@@ -158,24 +151,22 @@ fn output(command: &Command) -> usize {
 }
 
 impl<'a> Answering<'a> {
-    /// Reads the first run's answers to a history.
-    fn read(list: u32, history: &'a [Command], printed: &mut Printed) -> Result<Self, String> {
-        let Some((Command::New(options), calls)) = history.split_first() else {
-            unreachable!("a new shaper")
-        };
-        printed.list(list)?;
-        let (number, fresh) = printed.new_shaper()?;
-        let asked = seen::asked(history);
+    /// Reads the first run's answers to the list with this number.
+    fn read(number: u32, list: &'a [Command], printed: &mut Printed) -> Result<Self, String> {
+        let (opening, calls) = list.split_first().expect("a shaper");
+        printed.list(number)?;
+        let (refusal, fresh) = opened(opening, printed)?;
+        let asked = seen::asked(list);
         let (mut all_given, mut all_starts) = (Vec::new(), Vec::new());
         for call in calls {
             all_given.push(given(call, printed)?);
             all_starts.push(starts(&asked, printed)?);
         }
         Ok(Self {
-            list,
-            options,
+            list: number,
+            opening,
             calls,
-            number,
+            number: refusal,
             fresh,
             given: all_given,
             starts: all_starts,
@@ -200,18 +191,18 @@ impl<'a> Answering<'a> {
         })
     }
 
-    /// The history for the second run.
+    /// The list for the second run.
     fn commands(&self) -> Vec<Command> {
-        let mut commands = vec![Command::List(self.list), Command::New(self.options.clone())];
+        let mut commands = vec![Command::List(self.list), self.opening.clone()];
         commands.extend(self.steps().flat_map(|step| step.commands()));
         commands
     }
 
-    /// Reads the second run's answers to a history.
+    /// Reads the second run's answers to the list.
     fn draw(&self, printed: &mut Printed) -> Result<Answered, String> {
         printed.list(self.list)?;
-        if printed.new_shaper()? != (self.number, self.fresh.clone()) {
-            return Err("the program answers a new shaper call in two ways".to_owned());
+        if opened(self.opening, printed)? != (self.number, self.fresh.clone()) {
+            return Err("the program begins a list in two ways".to_owned());
         }
         let mut seen = VecDeque::new();
         for (step, starts) in self.steps().zip(&self.starts) {
@@ -232,6 +223,7 @@ impl<'a> Answering<'a> {
             Some(row) if step.is_drawn() => Some(Drawn {
                 node: row.node,
                 lines: self.lines(step, printed)?,
+                links: row.links.clone(),
             }),
             _ => None,
         };
@@ -246,7 +238,7 @@ impl<'a> Answering<'a> {
 
     /// The lines that each renderer call writes.
     fn lines(&self, step: &Step, printed: &mut Printed) -> Result<[Written; RENDERERS], String> {
-        let dashes = seen::dashes(self.options, self.number);
+        let dashes = seen::dashes(self.opening, self.number);
         let mut lines = Vec::new();
         for renderer in 0..RENDERERS {
             let (number, bytes) = printed.renderer(step.room())?;
@@ -322,6 +314,15 @@ impl Step<'_> {
             _ => first != second,
         };
         differs.then(|| format!("{first:?} with text calls, {second:?} with their row calls"))
+    }
+}
+
+/// Reads what the command gave that a list begins with: its refusal number and the shaper.
+fn opened(opening: &Command, printed: &mut Printed) -> Result<(u8, View), String> {
+    match opening {
+        Command::New(_) => printed.new_shaper(),
+        Command::Shaper(_) => Ok((0, printed.shaper()?)),
+        _ => unreachable!("a new shaper, or one set by hand"),
     }
 }
 

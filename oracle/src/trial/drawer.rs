@@ -13,32 +13,29 @@ use crate::origins::Started;
 use crate::pipeline::types::DashStyle;
 use crate::stream::Command;
 use crate::stream::Letters;
-use crate::stream::Options;
 use crate::stream::Row;
 use crate::waiting;
 
-use super::faults::Fault;
-use super::faults::Outcome;
-use super::faults::TrueRow;
 use super::lines::Stroke;
 use super::lines::RENDERERS;
 use super::seen;
 use super::seen::Answers;
 use super::seen::Begun;
 use super::seen::Drawn;
+use super::seen::Links;
 use super::seen::Seen;
 use super::seen::View;
 use super::seen::Written;
-
-/// The id that a stale shaper holds.
-const STALE: u32 = 77;
+use super::wrong::Outcome;
+use super::wrong::TrueRow;
+use super::wrong::Wrong;
 
 /// The Rust's machine, with a fault or none.
-pub struct Drawer {
+pub struct Drawer<F> {
     machine: Machine,
     /// The Rust with nothing wrong, which makes the same calls; its origins are read by columns.
     truth: Machine,
-    fault: Option<Fault>,
+    fault: Option<F>,
     /// The ids for which the fault carries a node of its own.
     namers: BTreeMap<u32, u32>,
     dashes: DashStyle,
@@ -56,9 +53,9 @@ struct Before {
     carried: u32,
 }
 
-impl Drawer {
+impl<F: Wrong> Drawer<F> {
     /// A machine that no call has been made on; the first row is drawn with the mark of this turn.
-    pub fn new(fault: Option<Fault>, turn: u64) -> Self {
+    pub fn new(fault: Option<F>, turn: u64) -> Self {
         Self {
             machine: Machine::new(&Letters::all()),
             truth: Machine::new(&Letters::all()),
@@ -96,7 +93,7 @@ impl Drawer {
     fn carried(&self, column: &Column<u32>) -> Option<u32> {
         let id = codes::held(column).filter(|_| codes::is_named(column))?;
         match self.start(id) {
-            Started::By(first) if self.fault != Some(Fault::Unkept) => Some(first),
+            Started::By(first) => Some(self.fault.map_or(first, |fault| fault.carried(first))),
             _ => Some(0),
         }
     }
@@ -136,8 +133,8 @@ impl Drawer {
 
     /// An accepted row or text call; a text call is held against the row call with its node and entries.
     fn drawn(&mut self, before: &Before, call: &Command) -> Seen {
-        if let Command::Text(_) = call {
-            self.spoil_text(&before.shaper);
+        if let (Command::Text(_), Some(fault)) = (call, self.fault) {
+            self.set_shaper(fault.written(&before.shaper, self.machine.shaper.clone()));
         }
         let row = waiting::row_of(call).expect("a row or text call");
         match calls::row(&before.shaper, row) {
@@ -154,19 +151,6 @@ impl Drawer {
         }
     }
 
-    /// Does to the shaper after an accepted text call what the fault says.
-    fn spoil_text(&mut self, before: &Shaper) {
-        let shaper = &self.machine.shaper;
-        match self.fault {
-            Some(Fault::TextIgnored) => self.set_columns(before.columns().clone()),
-            Some(Fault::PreviousLost) => {
-                self.machine.shaper =
-                    Shaper::by_hand(shaper.columns().clone(), *shaper.options(), None);
-            }
-            _ => {}
-        }
-    }
-
     /// What an accepted row with this shape leaves and shows, after the fault.
     fn outcome(&mut self, before: &Before, row: &Row, shape: &Shape) -> Outcome {
         let mut outcome = Outcome {
@@ -174,6 +158,7 @@ impl Drawer {
             drawn: Drawn {
                 node: shape.row.node_column,
                 lines: self.lines(shape),
+                links: Links::new(&shape.row),
             },
         };
         let row = TrueRow {
@@ -217,23 +202,31 @@ impl Drawer {
         }
     }
 
-    /// Puts other columns into the shaper; what the machine itself reads of their origins is not looked at.
+    /// Puts other columns into the shaper.
     fn set_columns(&mut self, columns: Vec<Column<u32>>) {
-        self.machine.origins = Origins::by_hand(&columns, &[]);
         let shaper = &self.machine.shaper;
-        self.machine.shaper =
-            Shaper::by_hand(columns, *shaper.options(), shaper.previous_node_column());
+        let previous = shaper.previous_node_column();
+        self.set_shaper(Shaper::by_hand(columns, *shaper.options(), previous));
+    }
+
+    /// Puts another shaper in its place; what the machine itself reads of the origins is not looked at.
+    fn set_shaper(&mut self, shaper: Shaper) {
+        self.machine.origins = Origins::by_hand(shaper.columns(), &[]);
+        self.machine.shaper = shaper;
     }
 }
 
-impl Answers for Drawer {
-    fn new_shaper(&mut self, options: &Options) -> Begun {
-        let number = self.run(&Command::New(options.clone()));
-        self.truth.origins = Origins::by_columns();
-        self.machine.origins = Origins::by_columns();
-        self.dashes = seen::dashes(options, number);
-        if self.fault == Some(Fault::Stale) {
-            self.set_columns(vec![Column::Parent(STALE)]);
+impl<F: Wrong> Answers for Drawer<F> {
+    fn begin(&mut self, opening: &Command) -> Begun {
+        let number = self.run(opening);
+        self.dashes = seen::dashes(opening, number);
+        if let Command::New(_) = opening {
+            self.truth.origins = Origins::by_columns();
+            self.machine.origins = Origins::by_columns();
+            if let Some(fault) = self.fault {
+                let columns = self.machine.shaper.columns().clone();
+                self.set_columns(fault.fresh(columns));
+            }
         }
         Begun {
             number,
@@ -251,11 +244,8 @@ impl Answers for Drawer {
     }
 
     fn started(&self, id: u32) -> Started {
-        match self.start(id) {
-            Started::By(first) if first == id && self.fault == Some(Fault::UnnamedByItself) => {
-                Started::Unnamed
-            }
-            other => other,
-        }
+        let started = self.start(id);
+        self.fault
+            .map_or(started, |fault| fault.answer(id, started))
     }
 }

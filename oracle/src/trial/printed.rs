@@ -9,7 +9,9 @@ use crate::pipeline::types::DashStyle;
 use crate::pipeline::types::GraphRowShapeStyle;
 use crate::pipeline::types::LinkLinePlacement;
 use crate::refusals;
+use crate::render::LinkLine;
 
+use super::seen::Links;
 use super::seen::View;
 
 /// What was read, or words for what cannot be.
@@ -26,6 +28,7 @@ pub struct RowAnswer {
     /// The node's column, and how many cells the shape has.
     pub node: usize,
     pub width: usize,
+    pub links: Links,
     pub shaper: View,
 }
 
@@ -66,7 +69,7 @@ impl<'a> Printed<'a> {
     /// A row call.
     pub fn row(&mut self) -> Read<RowAnswer> {
         let number = self.number_behind("row ")?;
-        let (node, width) = self.shape()?;
+        let (node, width, links) = self.shape()?;
         expect(number == 0 || (node, width) == (0, 0), || {
             format!("a row refused with {number} has a shape of width {width}")
         })?;
@@ -74,6 +77,7 @@ impl<'a> Printed<'a> {
             number,
             node,
             width,
+            links,
             shaper: self.shaper()?,
         })
     }
@@ -166,7 +170,7 @@ impl<'a> Printed<'a> {
     }
 
     /// The shaper.
-    fn shaper(&mut self) -> Read<View> {
+    pub fn shaper(&mut self) -> Read<View> {
         let names = [
             "shaper height=",
             " stagger=",
@@ -194,15 +198,21 @@ impl<'a> Printed<'a> {
         })
     }
 
-    /// The six lines of a shape; gives the node's column and the width.
-    fn shape(&mut self) -> Read<(usize, usize)> {
+    /// The six lines of a shape; gives the node's column, the width and the links.
+    fn shape(&mut self) -> Read<(usize, usize, Links)> {
         let (node, width) = self.shape_head()?;
-        self.cells("node ", width, |cell| NODE_CELLS.contains(&cell))?;
-        self.optional_cells("link ", width, is_link)?;
-        self.optional_cells("from ", width, is_link)?;
-        self.optional_cells("term ", width, |cell| flag(cell).is_ok())?;
-        self.cells("ancestry ", width, |cell| ANCESTRY_CELLS.contains(&cell))?;
-        Ok((node, width))
+        self.cells("node ", width, |cell| one_of(&NODE_CELLS, cell))?;
+        let links = Links {
+            linked: self.optional_cells("link ", width, link)?.is_some(),
+            marks: self
+                .optional_cells("from ", width, link)?
+                .unwrap_or_default(),
+            terms: self
+                .optional_cells("term ", width, flag)?
+                .unwrap_or_default(),
+        };
+        self.cells("ancestry ", width, |cell| one_of(&ANCESTRY_CELLS, cell))?;
+        Ok((node, width, links))
     }
 
     /// The first line of a shape; gives the node's column and the width.
@@ -235,25 +245,34 @@ impl<'a> Printed<'a> {
     }
 
     /// A line of cells, as many as the width says.
-    fn cells(&mut self, word: &str, width: usize, known: impl Fn(&str) -> bool) -> Read<()> {
-        let line = self.line()?;
-        let cells: Vec<_> = items(behind(line, word)?).collect();
-        let fits = cells.len() == width.min(refusals::COLUMNS) && cells.into_iter().all(known);
-        expect(fits, || format!("width {width}, line {line}"))
-    }
-
-    /// A line of cells that may be absent.
-    fn optional_cells(
+    fn cells<T>(
         &mut self,
         word: &str,
         width: usize,
-        known: impl Fn(&str) -> bool,
-    ) -> Read<()> {
+        read: impl Fn(&str) -> Read<T>,
+    ) -> Read<Vec<T>> {
+        let line = self.line()?;
+        let cells = items(behind(line, word)?).map(read);
+        let cells: Vec<_> = cells.collect::<Read<_>>()?;
+        expect(cells.len() == width.min(refusals::COLUMNS), || {
+            format!("width {width}, line {line}")
+        })?;
+        Ok(cells)
+    }
+
+    /// A line of cells that may be absent.
+    fn optional_cells<T>(
+        &mut self,
+        word: &str,
+        width: usize,
+        read: impl Fn(&str) -> Read<T>,
+    ) -> Read<Option<Vec<T>>> {
         let absent = format!("{word}absent\n");
         if self.left.starts_with(absent.as_bytes()) {
-            return self.skip(&absent);
+            self.skip(&absent)?;
+            return Ok(None);
         }
-        self.cells(word, width, known)
+        self.cells(word, width, read).map(Some)
     }
 }
 
@@ -363,10 +382,18 @@ fn column(text: &str) -> Read<Column<u32>> {
     }
 }
 
-/// Whether a link cell is written as one: a dash, or marks by name.
-fn is_link(cell: &str) -> bool {
-    cell == "-"
-        || cell
-            .split('+')
-            .all(|name| codes::marks().any(|(known, _)| known == name))
+/// A cell by its name, one of these.
+fn one_of(names: &[&str], cell: &str) -> Read<()> {
+    expect(names.contains(&cell), || format!("{cell:?} is no cell"))
+}
+
+/// A link cell: a dash, or marks by name.
+fn link(cell: &str) -> Read<LinkLine> {
+    let mut marks = LinkLine::empty();
+    for name in cell.split('+').filter(|_| cell != "-") {
+        let mark = codes::marks().find(|(known, _)| *known == name);
+        let (_, mark) = mark.ok_or_else(|| format!("{cell:?} is no link cell"))?;
+        marks |= mark;
+    }
+    Ok(marks)
 }

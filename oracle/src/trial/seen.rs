@@ -1,4 +1,4 @@
-//! What is seen of a machine: its answers to the calls of a history.
+//! What is seen of a machine: its answers to the calls of a list.
 
 use std::collections::BTreeSet;
 use std::iter;
@@ -8,9 +8,10 @@ use crate::codes;
 use crate::column::Column;
 use crate::origins::Started;
 use crate::pipeline::types::DashStyle;
+use crate::pipeline::types::GraphRowShape;
 use crate::pipeline::types::GraphRowShapeStyle;
+use crate::render::LinkLine;
 use crate::stream::Command;
-use crate::stream::Options;
 use crate::stream::Row;
 use crate::waiting;
 
@@ -23,10 +24,10 @@ const FIRST_MARK: u8 = 0x21;
 /// How many marks pass.
 const MARKS: u64 = 0x7e - 0x21 + 1;
 
-/// A machine's answers to one history, call after call.
+/// A machine's answers to one list, call after call.
 pub trait Answers {
-    /// What is seen of the new shaper call.
-    fn new_shaper(&mut self, options: &Options) -> Begun;
+    /// What is seen of the command that the list begins with: a new shaper call, or a shaper set by hand.
+    fn begin(&mut self, opening: &Command) -> Begun;
 
     /// What is seen of the next reserving, row or text call.
     fn call(&mut self, call: &Command) -> Seen;
@@ -35,7 +36,7 @@ pub trait Answers {
     fn started(&self, id: u32) -> Started;
 }
 
-/// What is seen of a new shaper call.
+/// What is seen of the command that a list begins with.
 pub struct Begun {
     /// The refusal number, 0 for none.
     pub number: u8,
@@ -57,10 +58,31 @@ pub struct Seen {
     pub differs: Option<String>,
 }
 
-/// What is seen of an accepted row: the node's column, and for each renderer the head and foot lines that its call writes.
+/// What is seen of an accepted row: the node's column, for each renderer the head and foot lines that its call writes, and the links.
 pub struct Drawn {
     pub node: usize,
     pub lines: [Written; RENDERERS],
+    pub links: Links,
+}
+
+/// What is seen of a row's links: whether there is a link line, the marks that come from the node, and the term cells. A line that is
+/// absent has no cells.
+#[derive(Clone, Debug, Default, PartialEq, Eq)]
+pub struct Links {
+    pub linked: bool,
+    pub marks: Vec<LinkLine>,
+    pub terms: Vec<bool>,
+}
+
+impl Links {
+    /// The links of the Rust's shape.
+    pub fn new(shape: &GraphRowShape<u32>) -> Self {
+        Self {
+            linked: shape.link_line.is_some(),
+            marks: shape.link_line_from_node.clone().unwrap_or_default(),
+            terms: shape.term_line.clone().unwrap_or_default(),
+        }
+    }
 }
 
 /// The lines that a renderer call writes, or words for what it does instead.
@@ -97,10 +119,10 @@ pub fn difference(text: &View, row: &View) -> Option<String> {
     (text != row).then(|| format!("the text call leaves {text:?}, the row call {row:?}"))
 }
 
-/// The ids that are asked for after each call of a history: every one that its calls reserve, draw or name, and one that none of them does.
-pub fn asked(history: &[Command]) -> Vec<u32> {
+/// The ids that are asked for after each call of a list: every one that its calls reserve, draw or name, and one that none of them does.
+pub fn asked(list: &[Command]) -> Vec<u32> {
     let mut ids = BTreeSet::new();
-    for call in history {
+    for call in list {
         match call {
             Command::Reserve(id) => ids.extend([*id]),
             call => ids.extend(waiting::row_of(call).into_iter().flat_map(ids_of)),
@@ -122,9 +144,24 @@ pub fn mark(turn: u64) -> u8 {
     FIRST_MARK + (turn % MARKS) as u8
 }
 
-/// The dashes of the shaper that a new shaper call gives; that of a refused one are Persistent.
-pub fn dashes(options: &Options, number: u8) -> DashStyle {
-    codes::dash(if number == 0 { options.dash } else { 0 })
+/// The dashes of the shaper that a list begins with; those of a refused new shaper call are Persistent.
+pub fn dashes(opening: &Command, number: u8) -> DashStyle {
+    codes::dash(match opening {
+        Command::New(options) if number == 0 => options.dash,
+        Command::Shaper(hand) => hand.options.dash,
+        _ => 0,
+    })
+}
+
+/// The columns of an id.
+pub fn places(columns: &[Column<u32>], id: u32) -> impl Iterator<Item = usize> + '_ {
+    let holds = move |place: &usize| codes::held(&columns[*place]) == Some(id);
+    (0..columns.len()).filter(holds)
+}
+
+/// The column at a place; past the last one it is Empty.
+pub fn column_at(columns: &[Column<u32>], place: usize) -> &Column<u32> {
+    columns.get(place).unwrap_or(&Column::Empty)
 }
 
 /// The head and foot lines out of what a renderer call wrote, or gave instead.
