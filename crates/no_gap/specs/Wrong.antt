@@ -1,5 +1,5 @@
 -- Machines that R-9 must rule out: ours, or a wrong one of demand 3, with one thing wrong in what is drawn from the node, or where its column is. Each breaks the clause
--- named with it; where one is named, no other fails. They run in `oracle/no_gap`, `strayFork` as `stray_fork`.
+-- named with it. The Rust with the same thing wrong runs in `oracle/no_gap`, for `strayFork` as `stray_fork`; where one clause is named, no other fails of it there.
 use Prim.Native.Nat.{ℕ, suc, _-_, max}
 use mathlib.Core.Bool.{Bool, true, false, cond, not, _&&_, _||_}
 use mathlib.Core.List.{List, [], _∷_, _++_}
