@@ -15,7 +15,7 @@ class Refusal(NamedTuple):
 REFUSALS = (
     Refusal(1, "HEIGHT_ABOVE_LIMIT", "new shaper", "the minimum row height is above 16", "a height of 0 to 16"),
     Refusal(2, "NO_COLUMN_LEFT", "reserving", "all 64 columns are taken, and none of them holds the id", "draw a row that frees a column first"),
-    Refusal(3, "TOO_MANY_ENTRIES", "row, preview, width, text", "it has more than 32 parents", "at most 32 parents in a row"),
+    Refusal(3, "TOO_MANY_ENTRIES", "row, preview, width, text", "it has more than eight parents", "at most eight parents in a row"),
     Refusal(4, "NODE_LINE_TOO_WIDE", "row, preview, text", "its row would be wider than 64 columns", "a shorter history, or one with fewer branches open at once"),
     Refusal(5, "MARK_OUTSIDE_SPAN", "renderer, text", "its mark is not a printable character", "a mark from ! to ~; a blank is none"),
     Refusal(6, "MESSAGE_TOO_LONG", "text", "its message is longer than 512 bytes", "a shorter message"),

@@ -46,7 +46,7 @@ fn branched(lines: u32, rows: usize) -> Vec<Row> {
 fn opening(lines: u32) -> Vec<Row> {
     let ids: Vec<u32> = (FIRST..FIRST + lines).collect();
     (1..)
-        .zip(ids.chunks(usize::from(refusals::RECORD_ENTRIES)))
+        .zip(ids.chunks(refusals::ENTRIES))
         .map(|(node, ids)| (node, ids.to_vec()))
         .collect()
 }

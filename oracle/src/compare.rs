@@ -100,7 +100,7 @@ impl Findings {
         for (letter, count) in &self.counts.calls {
             println!("calls {} {count}", char::from(*letter));
         }
-        for letter in *b"WBVT" {
+        for letter in lengths::CALLS {
             let count = |length: &usize| self.counts.of_length(letter, *length);
             let lengths: Vec<_> = lengths::COUNTS
                 .iter()
@@ -140,6 +140,10 @@ impl Task {
             );
         }
         if self.every_kind {
+            let never = counts.lengths_missing().into_iter();
+            missing.extend(
+                never.map(|(letter, length)| format!("call {letter} never had {length} entries")),
+            );
             missing.extend(counts.kinds.missing(kinds::OF_LISTS));
         }
         missing

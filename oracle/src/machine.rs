@@ -9,6 +9,7 @@ use crate::calls::Shaper;
 use crate::calls::TextState;
 use crate::codes;
 use crate::kinds::Kinds;
+use crate::lengths;
 use crate::measure;
 use crate::measure::Line;
 use crate::origins::Origins;
@@ -136,6 +137,17 @@ impl Counts {
     /// How often calls with this letter had so many entries.
     pub fn of_length(&self, letter: u8, length: usize) -> u64 {
         self.entries.get(&(letter, length)).copied().unwrap_or(0)
+    }
+
+    /// The lengths of lists that no such call had: each its letter and length.
+    pub fn lengths_missing(&self) -> Vec<(char, usize)> {
+        let wanted = lengths::CALLS
+            .into_iter()
+            .flat_map(|letter| lengths::COUNTS.map(|length| (letter, length)));
+        wanted
+            .filter(|place| !self.entries.contains_key(place))
+            .map(|(letter, length)| (char::from(letter), length))
+            .collect()
     }
 
     /// The refusals that calls of these letters can give and none has given: each its letter and number.

@@ -24,7 +24,7 @@ pub const ANCESTOR: u8 = 1;
 /// The code of a Parent entry.
 pub const PARENT: u8 = 2;
 /// The code of a Parent column.
-const PARENT_COLUMN: u8 = 4;
+pub const PARENT_COLUMN: u8 = 4;
 
 /// The lists of M1 to M10, numbered like these; each row is previewed right before it is drawn.
 pub fn lists() -> Vec<Vec<Command>> {
@@ -253,8 +253,8 @@ pub fn format_list(number: u32) -> Vec<u8> {
         (b'X', &[2, 0, 0, 0, b'O', 1, 0, 8, b'O', 4, 0, 9]),
         (b'B', &[1, 0, 0, 0, 2, 0, 2]),
         (b'W', &[1, 0, 0, 0, 2, 0, 2]),
-        (b'W', &[8, 0, 0, 0, 33]),
-        (b'B', &[8, 0, 0, 0, 33]),
+        (b'W', &[8, 0, 0, 0, 9]),
+        (b'B', &[8, 0, 0, 0, 9]),
         (b'B', &[]),
         (b'B', &[3, 0, 0, 0, 1, 0, 2, 9, 0, 0, 0, 77]),
         (b'X', &[2, 0, 0, 0, b'B', 1, 0, 7]),

@@ -67,7 +67,7 @@ pub fn room(random: &mut Random, length: usize, from: &[u8], behind: &[u8]) -> V
 
 /// Puts a byte beyond its limit, or at it, into a record.
 pub fn spoil(random: &mut Random, record: &mut [u8]) {
-    let entry = random.below(u64::from(refusals::RECORD_ENTRIES)) as usize;
+    let entry = random.below(refusals::ENTRIES as u64) as usize;
     let letter = random.from(records::MESSAGE_AT as u64, refusals::RECORD as u64 - 1);
     let (place, byte) = match random.below(4) {
         0 => (records::MARK_AT, random.pick(&BAD_MARKS)),

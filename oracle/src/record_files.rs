@@ -97,8 +97,8 @@ impl Maker {
         let id = self.node(left);
         let mark = self.mark();
         let count = self.count();
-        let entries: Vec<_> = (0..refusals::RECORD_ENTRIES)
-            .map(|place| self.entry(left, place < count))
+        let entries: Vec<_> = (0..refusals::ENTRIES)
+            .map(|place| self.entry(left, place < usize::from(count)))
             .collect();
         let room = record_bytes::message(&mut self.random);
         let record = record_bytes::whole(id, mark, count, &entries, &room);
@@ -122,7 +122,7 @@ impl Maker {
 
     /// A record's parent count.
     fn count(&mut self) -> u8 {
-        let most = refusals::RECORD_ENTRIES;
+        let most = refusals::ENTRIES as u8;
         match self.ids {
             Ids::Fresh => self.random.pick(&[most, most, most, most - 1]),
             _ => self.random.pick(&[0, 0, 1, 1, 1, 1, 2, 2, 2, 3, 4, most]),

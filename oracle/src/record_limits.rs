@@ -66,7 +66,7 @@ fn record(id: u32, mark: u8, count: u8, room: &[u8]) -> Vec<u8> {
 
 /// The first bytes of two records.
 fn lengths() -> Vec<Vec<u8>> {
-    let first = record(ID, b'o', refusals::RECORD_ENTRIES, b"first");
+    let first = record(ID, b'o', refusals::ENTRIES as u8, b"first");
     let two = [first, record(ENDS[0], b'@', 1, b"second")].concat();
     LENGTHS.map(|length| two[..length].to_vec()).to_vec()
 }
@@ -113,7 +113,7 @@ fn messages() -> Vec<Vec<u8>> {
 /// Two conditions broken at once, each pair, and all three.
 fn broken() -> Vec<Vec<u8>> {
     let cut = |bytes: Vec<u8>| bytes[..refusals::RECORD - 1].to_vec();
-    let too_many = refusals::RECORD_ENTRIES + 1;
+    let too_many = refusals::ENTRIES as u8 + 1;
     let other_kind = refusals::RECORD_KIND + 1;
     vec![
         cut(record(ID, b'o', too_many, b"")),

@@ -1,17 +1,16 @@
-//! Document 01's refusals: each condition of "Where a call turns back" once, with its number and its limit.
+//! Document 01's refusals: each condition of "Where a call turns back" once, with its number and its limit, that of entries as document 02
+//! changes it.
 
 /// The most columns, and the most cells of a shape.
 pub const COLUMNS: usize = 64;
-/// The most entries of a row.
-pub const ENTRIES: usize = 32;
+/// The most entries of a row, and of a record.
+pub const ENTRIES: usize = 8;
 /// The greatest minimum row height.
 pub const HEIGHT: u64 = 16;
 /// The most bytes of a message.
 pub const MESSAGE: usize = 512;
 /// The bytes of a record.
 pub const RECORD: usize = 128;
-/// The most entries of a record.
-pub const RECORD_ENTRIES: u8 = 8;
 /// The greatest kind of a record's entry.
 pub const RECORD_KIND: u8 = 2;
 /// The greatest refusal number.
@@ -61,7 +60,7 @@ pub fn no_column(held: bool, some_empty: bool, columns: usize) -> Result<(), Ref
     refuse(2, !held && !some_empty && columns >= COLUMNS)
 }
 
-/// 3: more than 32 entries.
+/// 3: more than 8 entries.
 pub fn entries(count: usize) -> Result<(), Refusal> {
     refuse(3, count > ENTRIES)
 }
@@ -103,7 +102,7 @@ pub fn record_length(left: usize) -> Result<(), Refusal> {
 
 /// 10: parent count above 8.
 pub fn record_entries(count: u8) -> Result<(), Refusal> {
-    refuse(10, count > RECORD_ENTRIES)
+    refuse(10, usize::from(count) > ENTRIES)
 }
 
 /// 11: kind above 2 in a used entry.

@@ -1,5 +1,5 @@
 //! The vector stream: the marked rows, the format, lists of every length, record calls at their limits, queued lines measured in cells,
-//! queries for who started a line, and a sample of generated lists.
+//! queries for who started a line, widths at their greatest, and a sample of generated lists.
 
 use std::collections::BTreeMap;
 use std::collections::BTreeSet;
@@ -26,6 +26,8 @@ const RECORD_LIST: u32 = 14;
 const MEASURE_LIST: u32 = 15;
 /// The number of the list about who started a line.
 const QUERY_LIST: u32 = 16;
+/// The number of the list about the greatest widths.
+const WIDTH_LIST: u32 = 17;
 /// The letter of the record call, which works on no state.
 const RECORD: u8 = b'D';
 /// The first list number of the sample of commands that are built and work on a state.
@@ -54,6 +56,7 @@ pub fn stream(built: &Letters) -> Vec<u8> {
     stream.extend(encode(&record_limits::list(RECORD_LIST)));
     stream.extend(encode(&measured_lines::list(MEASURE_LIST)));
     stream.extend(encode(&queried_lines::list(QUERY_LIST)));
+    stream.extend(encode(&lengths::widest(WIDTH_LIST)));
     stream.extend(sample(BUILT_LISTS, &built.without(RECORD)));
     stream.extend(sample(ALL_LISTS, &Letters::all()));
     stream.extend(marked::cut_command());

@@ -184,11 +184,11 @@ text-refused =
       rest = λ z. absurd (omega (arith, z));
     }
 
--- ---- a row with 33 entries
+-- ---- a row with nine entries
 
--- "33 give 3" (01, "Where a call turns back")
+-- "Nine entries now give 3" (02, R-5)
 abbrev pub too-many : List Entry
-too-many = replicate 33 (entryOf (entry.Parent 4))
+too-many = replicate 9 (entryOf (entry.Parent 4))
 
 -- "row 3", and "a shape without cells"
 abbrev pub too-many-answer : ShapeAnswer

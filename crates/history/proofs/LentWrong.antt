@@ -78,7 +78,7 @@ not-origin-left-behind k = let z : _≡_ {A = ℕ} 7 0 = k .rest refl .origins 5
 abbrev rankAt : ℕ → Shaper → ℕ
 rankAt i s = rank ((getD (s .slots) i emptySlot) .column)
 
--- "A refusal gives its number .. and changes no state": a row with 33 entries that gives 3 and stores (right: LentTextCase.row-refused)
+-- "A refusal gives its number .. and changes no state": a row with nine entries that gives 3 and stores (right: LentTextCase.row-refused)
 pub not-refused-row-stored : LentRows after-text 3 too-many (stored after-text 0 4) too-many-answer → ⊥
 not-refused-row-stored k = let z : _≡_ {A = ℕ} 2 0 = ap (rankAt 0) (k .refused (λ e. omega (arith, e))) in omega arith
 

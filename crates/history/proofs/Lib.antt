@@ -17,3 +17,4 @@ pub mod ProgramsCase
 pub mod LentCase
 pub mod LentTextCase
 pub mod LentWrong
+pub mod LentEntries

@@ -1,4 +1,4 @@
--- What copying one entry after the other comes to: a list of at most thirty-two is copied whole, of a longer one there are too many.
+-- What copying one entry after the other comes to: a list of at most eight is copied whole, of a longer one there are too many.
 use mathlib.Core.Path.{_≡_, refl, sym, _∙_, ap}
 use Prim.Native.Nat.{ℕ, zero, suc, _+_, _-_, _<_, _≤_}
 use native.Mathlib.Nat.{zero-add, suc-add}

@@ -69,7 +69,7 @@ pub fn reserve(shaper: &mut Shaper, node: u32) -> u8
     given.refusal
 }
 
-// The entries of a lent list by value; past 32 there are too many.
+// The entries of a lent list by value; past 8 there are too many.
 pub fn copy_entries(list: &[Entry]) -> Entries
     ensures { λ r. ⌜ Copies (now (list .entry)) r ⌝ }
 {

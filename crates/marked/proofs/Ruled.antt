@@ -3,10 +3,10 @@
 use Prim.Native.Nat.{ℕ, zero, suc}
 use mathlib.Core.Path.{_≡_, refl, sym, ap, subst, _∙_}
 use mathlib.Core.Logic.{_≢_}
-use mathlib.Core.Bool.{Bool, true, false}
+use mathlib.Core.Bool.{true}
 use mathlib.Core.List.{List, [], _∷_}
 use native.Mathlib.Omega.{arith}
-use lib.Dec.{ltb}
+use lib.Dec.{lit≤}
 use lib.ListN.{length, drop}
 use Rattle.column.specs.declared.Column.{Column}
 use Rattle.column.specs.declared.Column.the-variants.{Empty}
@@ -17,8 +17,8 @@ use Rattle.render.specs.declared.render.Ancestor.{Ancestor as Entry}
 use Rattle.render.specs.declared.render.Ancestor.the-variants.{Ancestor, Parent}
 use Rattle.render.specs.declared.types.Options.{Options}
 use Rattle.render.specs.Refusals.{refusal}
-use Rattle.shaper.specs.Shaper.{heightLimit, View, newShaper}
-use Rattle.shaper.specs.NodeColumn.{dense, nodeColumn}
+use Rattle.shaper.specs.Shaper.{View, newShaper}
+use Rattle.shaper.specs.NodeColumn.{nodeColumn}
 use Rattle.placing.specs.Placing.{place}
 use Rattle.row_shape.specs.Row.{rowChecks, row}
 use Rattle.glyphs.specs.declared.Renderer.{Renderer}
@@ -31,27 +31,12 @@ use Rattle.steps.specs.Steps.{programOptions}
 use Rattle.steps.proofs.FilePages.{page-is}
 use Rattle.marked.specs.Marked.{plain}
 use Rattle.marked.specs.MarkedListing.{m1-mark, parent, m1-record}
+use Rattle.marked.proofs.FewEntries.{eight-pass}
 use Rattle.marked.proofs.Holding.{Holds, Where, away, there, findIs, named, row-holds}
-
-accepted-first : (v : View) (n : ℕ) → v .columns ≡ [] → v .previous ≡ Nothing → (b : Bool) → dense v ≡ b → row v n [] .refusal ≡ 0
-unfolding row place
-accepted-first v n e p true q = rw (e, q, p)
-accepted-first v n e p false q = rw (e, q)
 
 -- some row is accepted on every new shaper, a refused one too: each row without entries
 pub new-accepts : (o : Options) (n : ℕ) → row (newShaper o .view) n [] .refusal ≡ 0
-new-accepts o n = go (ltb heightLimit (o .«min_row_height»)) refl
-  where
-    columns : (b : Bool) → ltb heightLimit (o .«min_row_height») ≡ b → newShaper o .view .columns ≡ []
-    columns true q = rw q
-    columns false q = rw q
-
-    previous : (b : Bool) → ltb heightLimit (o .«min_row_height») ≡ b → newShaper o .view .previous ≡ Nothing
-    previous true q = rw q
-    previous false q = rw q
-
-    go : (b : Bool) → ltb heightLimit (o .«min_row_height») ≡ b → row (newShaper o .view) n [] .refusal ≡ 0
-    go b q = accepted-first (newShaper o .view) n (columns b q) (previous b q) (dense (newShaper o .view)) refl
+new-accepts o n = eight-pass [] (lit≤ tt) .in-row o n
 
 -- a history of one node with one entry, without a message
 abbrev one : Entry → List TextCall

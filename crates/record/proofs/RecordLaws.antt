@@ -18,7 +18,7 @@ use Rattle.render.specs.Refusals.{recordCutShort, tooManyParents, kindAboveLimi
 use Rattle.record.specs.declared.Outcome.{Outcome}
 use Rattle.record.specs.declared.Outcome.the-variants.{Ready, Ended, Refused}
 use Rattle.record.specs.declared.RecordAnswer.{RecordAnswer}
-use Rattle.record.specs.Record.{recordLength, parentLimit, parentCount, kindLimit, messageRoom, RawEntry, writtenAt, writtenFrom, used, entryOf, entryPlace, anyAbove, upToZero, roomOf, RecordView, recordOf, noRecord, RecordReply, outcomeOf, recordChecks, nextRecord, outcomeNumber}
+use Rattle.record.specs.Record.{recordLength, parentCount, kindLimit, messageRoom, RawEntry, writtenAt, writtenFrom, used, entryOf, entryPlace, anyAbove, upToZero, roomOf, RecordView, recordOf, noRecord, RecordReply, outcomeOf, recordChecks, nextRecord, outcomeNumber}
 use Rattle.record.specs.Promises.{entry, entriesWith, padded, recordWith, recordViewOf, Records}
 
 -- ---- room that is filled from its start
@@ -196,29 +196,29 @@ module _ (left : List ℕ) (r : RecordAnswer) where
     short-done h = without (Refused recordCutShort) (rw (lt-ltb 0 (length left) (omega arith), lt-ltb (length left) recordLength h) refl)
 
     module _ (whole : recordLength ≤ length left) (parents : ℕ) (p : parents ≡ parentCount left) where
-      pub many-done : parentLimit < parents → (r .outcome ≡ Refused tooManyParents) × (r .«record» ≡ recordWith noRecord) → Records left r
+      pub many-done : entryLimit < parents → (r .outcome ≡ Refused tooManyParents) × (r .«record» ≡ recordWith noRecord) → Records left r
       unfolding nextRecord
       many-done h =
-          let m : parentLimit < parentCount left = omega arith in
-          without (Refused tooManyParents) (rw (lt-ltb 0 (length left) (omega arith), le-ltb (length left) recordLength whole, lt-ltb parentLimit (parentCount left) m) refl)
+          let m : entryLimit < parentCount left = omega arith in
+          without (Refused tooManyParents) (rw (lt-ltb 0 (length left) (omega arith), le-ltb (length left) recordLength whole, lt-ltb entryLimit (parentCount left) m) refl)
 
-      module _ (few : parents ≤ parentLimit) where
+      module _ (few : parents ≤ entryLimit) where
         kinds : {t : Bool} → t ≡ anyAbove kindLimit (writtenFrom left 0 parents) → anyAbove kindLimit (used left) ≡ t
         kinds a = sym (a ∙ ap (λ (n : ℕ). anyAbove kindLimit (writtenFrom left 0 n)) p)
 
         pub kind-done : true ≡ anyAbove kindLimit (writtenFrom left 0 parents) → (r .outcome ≡ Refused kindAboveLimit) × (r .«record» ≡ recordWith noRecord) → Records left r
         unfolding nextRecord
         kind-done a =
-            let m : parentCount left ≤ parentLimit = omega arith in
+            let m : parentCount left ≤ entryLimit = omega arith in
             without (Refused kindAboveLimit)
-            (rw (lt-ltb 0 (length left) (omega arith), le-ltb (length left) recordLength whole, le-ltb parentLimit (parentCount left) m, kinds a) refl)
+            (rw (lt-ltb 0 (length left) (omega arith), le-ltb (length left) recordLength whole, le-ltb entryLimit (parentCount left) m, kinds a) refl)
 
         pub ready-done : false ≡ anyAbove kindLimit (writtenFrom left 0 parents) → r .outcome ≡ Ready → r .«record» ≡ recordWith (recordOf left) → Records left r
         unfolding nextRecord
         ready-done a o q =
-            let m : parentCount left ≤ parentLimit = omega arith in
+            let m : parentCount left ≤ entryLimit = omega arith in
             records-with left Ready (recordOf left) r
-            (rw (lt-ltb 0 (length left) (omega arith), le-ltb (length left) recordLength whole, le-ltb parentLimit (parentCount left) m, kinds a, ready left some) refl)
+            (rw (lt-ltb 0 (length left) (omega arith), le-ltb (length left) recordLength whole, le-ltb entryLimit (parentCount left) m, kinds a, ready left some) refl)
             o
             q
             (rw (length-map (used left) entryOf, written-length left 0 (parentCount left)) (omega arith))

@@ -6,6 +6,7 @@ use lib.Dec.{ltb, eqb}
 use lib.ListN.{length, getD, take, drop}
 use Rattle.render.specs.declared.render.Ancestor.{Ancestor as Entry}
 use Rattle.render.specs.declared.render.Ancestor.the-variants.{Ancestor as Indirect, Parent as Direct, Anonymous}
+use Rattle.render.specs.Entries.{entryLimit}
 use Rattle.render.specs.Refusals.{recordCutShort, tooManyParents, kindAboveLimit, Check, _when_, refusal}
 use Rattle.record.specs.declared.Outcome.{Outcome}
 use Rattle.record.specs.declared.Outcome.the-variants.{Ready, Ended, Refused}
@@ -32,10 +33,6 @@ markOf s = getD s 4 0
 -- "parent count (5)"
 abbrev pub parentCount : List ℕ → ℕ
 parentCount s = getD s 5 0
-
--- "parent count above 8" (01, the table's row 10)
-abbrev pub parentLimit : ℕ
-parentLimit = 8
 
 -- "eight entries of kind byte and id (6 to 45 ..)": where the k-th stands
 abbrev pub entryPlace : ℕ → ℕ
@@ -106,7 +103,7 @@ noRecord = record { id = 0; mark = 0; entries = []; message = [] }
 abbrev pub recordChecks : List ℕ → List Check
 recordChecks left =
     (recordCutShort when (ltb 0 (length left) && ltb (length left) recordLength))
-    ∷ (tooManyParents when ltb parentLimit (parentCount left))
+    ∷ (tooManyParents when ltb entryLimit (parentCount left))
     ∷ (kindAboveLimit when anyAbove kindLimit (used left))
     ∷ []
 

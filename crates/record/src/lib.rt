@@ -3,9 +3,11 @@ ghost use mathlib.Core.Path.{_≡_};
 ghost use mathlib.Core.List.{map};
 ghost use Prim.Native.Nat.{_+_, _≤_};
 ghost use lib.ListN.{length, take};
-ghost use Rattle.record.specs.Record.{recordLength, parentLimit, parentCount, kindLimit, messageRoom, idAt, entryOf, writtenAt, writtenFrom, anyAbove, upToZero, recordOf, noRecord};
+ghost use Rattle.render.specs.Entries.{entryLimit};
+ghost use Rattle.record.specs.Record.{recordLength, parentCount, kindLimit, messageRoom, idAt, entryOf, writtenAt, writtenFrom, anyAbove, upToZero, recordOf, noRecord};
 ghost use Rattle.record.specs.Promises.{entry, entriesWith, padded, recordWith, Records};
 use render::Ancestor;
+use render::ENTRY_LIMIT;
 use render::Entries;
 use render::Entry;
 use render::KIND_ABOVE_LIMIT;
@@ -14,9 +16,6 @@ use render::TOO_MANY_PARENTS;
 
 // The bytes of a record.
 pub const RECORD: usize = 128;
-
-// The most parents of a record.
-pub const PARENT_LIMIT: usize = 8;
 
 // The highest kind of an entry.
 const KIND_LIMIT: u8 = 2;
@@ -92,7 +91,7 @@ fn ancestor(kind: u8, id: u32) -> Ancestor
 
 // The entry with this number.
 fn entry_at(left: &[u8], number: usize) -> Entry
-    requires { ⌜ (recordLength ≤ length (now left)) × (number + 1 ≤ parentLimit) ⌝ }
+    requires { ⌜ (recordLength ≤ length (now left)) × (number + 1 ≤ entryLimit) ⌝ }
     ensures { λ r. ⌜ r ≡ entry (entryOf (writtenAt (now (left .entry)) number)) ⌝ }
 {
     let at = ENTRIES_AT + ENTRY * number;
@@ -102,7 +101,7 @@ fn entry_at(left: &[u8], number: usize) -> Entry
 
 // The first entries, as many as there are parents.
 fn entries_of(left: &[u8], parents: usize) -> Entries
-    requires { ⌜ (recordLength ≤ length (now left)) × (parents ≤ parentLimit) ⌝ }
+    requires { ⌜ (recordLength ≤ length (now left)) × (parents ≤ entryLimit) ⌝ }
     ensures { λ r. ⌜ r ≡ entriesWith (map entryOf (writtenFrom (now (left .entry)) 0 parents)) ⌝ }
 {
     let mut entries = Entries::none();
@@ -116,7 +115,7 @@ fn entries_of(left: &[u8], parents: usize) -> Entries
 
 // Whether one of the first entries has a kind above the highest.
 fn has_other_kind(left: &[u8], parents: usize) -> bool
-    requires { ⌜ (recordLength ≤ length (now left)) × (parents ≤ parentLimit) ⌝ }
+    requires { ⌜ (recordLength ≤ length (now left)) × (parents ≤ entryLimit) ⌝ }
     ensures { λ r. ⌜ r ≡ anyAbove kindLimit (writtenFrom (now (left .entry)) 0 parents) ⌝ }
 {
     let mut i: usize = 0;
@@ -159,7 +158,7 @@ fn message_of(room: &[u8], n: usize) -> [u8; MESSAGE_ROOM]
 
 // The record at the beginning of the bytes.
 fn record_of(left: &[u8], parents: usize) -> Record
-    requires { ⌜ (recordLength ≤ length (now left)) × (parents ≤ parentLimit) × (parents ≡ parentCount (now left)) ⌝ }
+    requires { ⌜ (recordLength ≤ length (now left)) × (parents ≤ entryLimit) × (parents ≡ parentCount (now left)) ⌝ }
     ensures { λ r. ⌜ r ≡ recordWith (recordOf (now (left .entry))) ⌝ }
 {
     let room = &left[MESSAGE_AT..RECORD];
@@ -201,7 +200,7 @@ pub fn next_record(left: &[u8]) -> RecordAnswer
         return no_record(Outcome::Refused(RECORD_CUT_SHORT));
     }
     let parents = wide(left[COUNT_AT]) as usize;
-    if PARENT_LIMIT < parents {
+    if ENTRY_LIMIT < parents {
         return no_record(Outcome::Refused(TOO_MANY_PARENTS));
     }
     if has_other_kind(left, parents) {

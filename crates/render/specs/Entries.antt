@@ -10,9 +10,9 @@ use Rattle.render.specs.declared.render.Ancestor.the-variants.{Ancestor 
 use Rattle.render.specs.declared.render.Entry.{Entry}
 use Rattle.render.specs.declared.render.Entries.{Entries}
 
--- 32 entries (01, the table's row for row, width, text)
+-- "The limit of 32 becomes 8 wherever 01 uses it, so a row and a record have one limit." (02, R-5)
 abbrev pub entryLimit : ℕ
-entryLimit = 32
+entryLimit = 8
 
 -- "Anonymous (no id ..)" (01, point 2; `ancestor_id` in graph_to_row_shape.rs)
 abbrev pub entryId : Ancestor → Option ℕ
@@ -31,7 +31,7 @@ abbrev pub anyOf {ℓ} : {A : Type ℓ} → (A → Bool) → List A → Bool
 anyOf t [] = false
 anyOf t (a ∷ l) = t a || anyOf t l
 
--- "more than 32 entries" (01, the table's row for row, width, text)
+-- "more than 32 entries" (01, the table's row for row, width, text); "Nine entries now give 3" (02, R-5)
 abbrev pub tooMany : List Ancestor → Bool
 tooMany es = ltb entryLimit (length es)
 

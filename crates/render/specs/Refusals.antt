@@ -17,7 +17,7 @@ heightAboveLimit = 1
 abbrev pub noColumnLeft : ℕ
 noColumnLeft = 2
 
--- row, width, text, and with R-1 of 02 preview: "more than 32 entries"
+-- row, width, text, and with R-1 of 02 preview: "more than 32 entries", with R-5 more than 8
 abbrev pub tooManyEntries : ℕ
 tooManyEntries = 3
 

@@ -9,7 +9,7 @@ pub const HEIGHT_ABOVE_LIMIT: u8 = 1;
 // Reserving: id not held, no Empty column, 64 columns.
 pub const NO_COLUMN_LEFT: u8 = 2;
 
-// Row, preview, width, text: more than 32 entries.
+// Row, preview, width, text: more than 8 entries (R-5).
 pub const TOO_MANY_ENTRIES: u8 = 3;
 
 // Row, preview, text: node line would have more than 64 cells.

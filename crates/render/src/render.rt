@@ -4,8 +4,8 @@ ghost use Prim.Native.Nat.{_≤_};
 ghost use Rattle.render.specs.Entries.{pushed, noEntries, listed, tooMany, isAnonymous};
 ghost use Rattle.render.specs.Link.{meets, joined, only, unmarked, linkOf};
 
-// The most entries of a row.
-pub const ENTRY_LIMIT: usize = 32;
+// The most entries of a row, and of a record.
+pub const ENTRY_LIMIT: usize = 8;
 
 // A parent entry's kind and id.
 pub enum Ancestor {

@@ -76,7 +76,7 @@ module _ (s : Shaper) (n : ℕ) (es : Entries) where
         options = refl;
       }
 
-  -- more than 32 entries
+  -- more than 8 entries
   pub row-too-many : (r : RowAnswer) → tooMany (listed es) ≡ true → r ≡ record { refusal = 3; shape = noShape; shaper = s } → Rows s n es r
   unfolding row place
   row-too-many r h e = rw e (refused-row 2 (rw h))

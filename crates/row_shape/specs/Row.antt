@@ -73,7 +73,7 @@ pub record RowReply : Type 0 where
   pub shape : RowShape
   pub view : View
 
--- the table's rows for row: 3 "more than 32 entries", 4 "node line would have more than 64 cells"
+-- the table's rows for row: 3 "more than 32 entries" (with R-5 of 02 more than 8), 4 "node line would have more than 64 cells"
 abbrev pub rowChecks : List Entry → Placed → List Check
 rowChecks es p = (tooManyEntries when tooMany es) ∷ (nodeLineTooWide when ltb columnLimit (length (p .walked))) ∷ []
 

@@ -31,11 +31,11 @@ use Rattle.render.proofs.EntryLaws.{few-count}
 pub slots-long : (l : List Slot) → length (map (the-type .to) l) ≡ columnLimit → length l ≡ columnLimit
 slots-long l e = sym (length-map l (the-type .to)) ∙ e
 
--- and an array of entries has 32
+-- and an array of entries has 8
 pub entries-long : (l : List Entry) → length (map (Entry′.the-type .to) l) ≡ entryLimit → length l ≡ entryLimit
 entries-long l e = sym (length-map l (Entry′.the-type .to)) ∙ e
 
--- entries that are not too many are at most 32
+-- entries that are not too many are at most 8
 pub few : (es : Entries) → tooMany (listed es) ≡ false → es .count ≤ entryLimit
 few = few-count
 

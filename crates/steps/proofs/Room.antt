@@ -61,7 +61,8 @@ not-eight false false true z r s k = omega (arith, k)
 not-eight false false false false r s k = omega (arith, k, s)
 not-eight false false false true r s k = omega (arith, k)
 
-number-told : (k : ℕ) (ls : List (List ℕ)) (out : List ℕ) (v w : View) (t u : TextView) → textAnswer k ls out v w t u .refusal ≡ k
+-- the text call's answer has the number that its checks give
+pub number-told : (k : ℕ) (ls : List (List ℕ)) (out : List ℕ) (v w : View) (t u : TextView) → textAnswer k ls out v w t u .refusal ≡ k
 number-told zero ls out v w t u = refl
 number-told (suc k) ls out v w t u = refl
 

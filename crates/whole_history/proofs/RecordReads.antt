@@ -11,7 +11,7 @@ use Rattle.render.specs.declared.render.Entry.{Entry}
 use Rattle.render.specs.declared.render.Entries.{Entries}
 use Rattle.render.specs.Entries.{entryLimit, listed, pushed}
 use Rattle.glyphs.specs.declared.Renderer.the-variants.{Ascii, AsciiLarge, Square, Curved, Dec}
-use Rattle.record.specs.Record.{parentCount, parentLimit, idAt, entryPlace, writtenAt, writtenFrom, entryOf}
+use Rattle.record.specs.Record.{parentCount, idAt, entryPlace, writtenAt, writtenFrom, entryOf}
 use Rattle.record.specs.Promises.{entry, entriesWith}
 use Rattle.record.proofs.RecordLaws.{written-length, entries-next, listed-with}
 use Rattle.whole_history.specs.Whole.{entriesOf, rendererOf}
@@ -25,7 +25,7 @@ first-length s n = length-map (writtenFrom s 0 n) entryOf ∙ written-length s 0
 
 -- a record has at most eight
 entries-few : (s : List ℕ) → length (entriesOf s) ≤ entryLimit
-entries-few s = omega (arith, first-length s (min (parentCount s) parentLimit))
+entries-few s = omega (arith, first-length s (min (parentCount s) entryLimit))
 
 -- what the struct that holds them stands for: a list that is never too long
 module _ (s : List ℕ) {es : Entries} (e : es ≡ entriesWith (entriesOf s)) where
@@ -49,11 +49,11 @@ list-next s i {l} {a} e r d h =
     ap (λ (x : List Entry). set x i (entry a)) e ∙ ap (λ (k : ℕ). set (entriesWith (first s i) .list) k (entry a)) (sym n) ∙ sym t ∙ ap (λ (x : Entries). x .list) p
 
 -- the struct, from its parts
-pub entries-done : (s : List ℕ) (n i : ℕ) {l : List Entry} → l ≡ entriesWith (first s i) .list → i ≡ n → n ≡ min (parentCount s) parentLimit
+pub entries-done : (s : List ℕ) (n i : ℕ) {l : List Entry} → l ≡ entriesWith (first s i) .list → i ≡ n → n ≡ min (parentCount s) entryLimit
     → record { list = l; count = n; «too_many» = false } ≡ entriesWith (entriesOf s)
 entries-done s n i e f m =
-    let c : n ≡ length (entriesOf s) = m ∙ sym (first-length s (min (parentCount s) parentLimit)) in
-    let d : i ≡ min (parentCount s) parentLimit = f ∙ m in
+    let c : n ≡ length (entriesOf s) = m ∙ sym (first-length s (min (parentCount s) entryLimit)) in
+    let d : i ≡ min (parentCount s) entryLimit = f ∙ m in
     pairs (e ∙ ap (λ (k : ℕ). entriesWith (first s k) .list) d) c
   where
     pairs : {x y : List Entry} {n m : ℕ} → x ≡ y → n ≡ m

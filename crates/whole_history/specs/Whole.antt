@@ -7,6 +7,7 @@ use lib.Dec.{eqb, leb}
 use lib.ListN.{length, getD, take, drop}
 use Rattle.column.specs.declared.Found.the-variants.{At}
 use Rattle.render.specs.declared.render.Ancestor.{Ancestor as Entry}
+use Rattle.render.specs.Entries.{entryLimit}
 use Rattle.shaper.specs.Shaper.{View, viewAfter}
 use Rattle.row_shape.specs.Row.{RowReply, row}
 use Rattle.preview.specs.Preview.{PreviewReply, preview}
@@ -16,7 +17,7 @@ use Rattle.slices.specs.Joins.{over}
 use Rattle.prefix_lines.specs.PrefixLines.{Answer, nextPrefixLines}
 use Rattle.output.specs.Output.{TextView}
 use Rattle.text.specs.Text.{TextReply, text}
-use Rattle.record.specs.Record.{recordLength, pieces, idAt, markOf, parentCount, parentLimit, writtenFrom, entryOf}
+use Rattle.record.specs.Record.{recordLength, pieces, idAt, markOf, parentCount, writtenFrom, entryOf}
 use Rattle.steps.specs.Steps.{beginning}
 use Rattle.whole_history.specs.Shapes.{shapeBytes, nodeBytes, previewBytes}
 
@@ -28,7 +29,7 @@ recordsOf s = pieces (length s / recordLength) s
 
 -- a record's parent entries (01, "Added by us"), where a count above 8 is read as 8 and a kind above 2 as 2
 abbrev pub entriesOf : List ℕ → List Entry
-entriesOf b = map entryOf (writtenFrom b 0 (min (parentCount b) parentLimit))
+entriesOf b = map entryOf (writtenFrom b 0 (min (parentCount b) entryLimit))
 
 -- the renderer with a number; one above 4 is DEC
 abbrev pub rendererOf : ℕ → Renderer

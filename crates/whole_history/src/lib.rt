@@ -17,7 +17,6 @@ use column::Found;
 use glyphs::Renderer;
 use prefix_lines::next_prefix_lines;
 use preview::preview;
-use record::PARENT_LIMIT;
 use record::RECORD;
 use render::Ancestor;
 use render::Cell;
@@ -86,7 +85,7 @@ fn entries_of(bytes: &[u8]) -> Entries
     requires { ⌜ recordLength ≤ length (now bytes) ⌝ }
     ensures { λ r. ⌜ r ≡ entriesWith (entriesOf (now (bytes .entry))) ⌝ }
 {
-    let count = lesser(wide(bytes[COUNT_AT]) as usize, PARENT_LIMIT);
+    let count = lesser(wide(bytes[COUNT_AT]) as usize, ENTRY_LIMIT);
     let none = Ancestor::Anonymous;
     let unused = Entry { ancestor: none };
     let mut list = [unused; ENTRY_LIMIT];

@@ -7,6 +7,7 @@ use super::values;
 use super::Generator;
 use super::Theme;
 use crate::random::Random;
+use crate::refusals;
 use crate::stream::Command;
 use crate::stream::Entry;
 use crate::stream::Letters;
@@ -48,7 +49,8 @@ impl Generator<'_> {
         let end = first + self.random.from(58, 66) as u32;
         let mut next = first;
         while next < end {
-            let past = end.min(next.saturating_add(self.random.from(1, 32) as u32));
+            let past =
+                end.min(next.saturating_add(self.random.from(1, refusals::ENTRIES as u64) as u32));
             self.make_wait(next..past);
             next = past;
         }

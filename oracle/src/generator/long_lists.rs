@@ -15,8 +15,8 @@ use crate::stream::Width;
 const ROWS: (u64, u64) = (2100, 3000);
 /// The fewest columns that are nearly full.
 const NEARLY_FULL: u64 = 58;
-/// The most entries that no column holds yet.
-const NEW_ENTRIES: u64 = 30;
+/// The most entries that no column holds yet: one that is held may come to them.
+const NEW_ENTRIES: u64 = refusals::ENTRIES as u64 - 1;
 /// The first id that no column holds at the beginning.
 const FRESH: u32 = 5000;
 /// Kinds of entries: direct ones, and now and then an indirect one.

@@ -33,8 +33,8 @@ impl Generator<'_> {
     /// A record with any mark, and any bytes where they are ignored; its parent count alone may refuse it.
     fn whole_record(&mut self) -> Vec<u8> {
         let count = self.parent_count();
-        let entries: Vec<_> = (0..refusals::RECORD_ENTRIES)
-            .map(|place| self.record_entry(place < count))
+        let entries: Vec<_> = (0..refusals::ENTRIES)
+            .map(|place| self.record_entry(place < usize::from(count)))
             .collect();
         let room = self.room();
         let mark = self.random.next() as u8;
@@ -46,7 +46,7 @@ impl Generator<'_> {
         if self.random.once_in(4) {
             return self.random.next() as u8;
         }
-        self.random.from(0, u64::from(refusals::RECORD_ENTRIES)) as u8
+        self.random.from(0, refusals::ENTRIES as u64) as u8
     }
 
     /// An entry of a record, used or not.

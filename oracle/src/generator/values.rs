@@ -70,14 +70,13 @@ impl Generator<'_> {
 
     /// The entries of a row: repeats, the node itself and Anonymous ones among them.
     pub fn entries(&mut self, node: u32) -> Vec<Entry> {
-        let count = match self.random.weighted(&[480, 680, 400, 280, 80, 60, 19, 1]) {
+        let count = match self.random.weighted(&[480, 680, 400, 280, 140, 16, 4]) {
             0 => 0,
             1 => 1,
             2 => 2,
             3 => self.random.from(3, 6),
-            4 => self.random.from(7, 30),
-            5 => self.random.from(31, 33),
-            6 => 40,
+            4 => self.random.pick(&[7, 7, 8, 8, 8, 9]),
+            5 => self.random.from(10, 40),
             _ => self.random.pick(&[999, 1000, 1000, 1000, 1001, 1500]),
         };
         let mut entries: Vec<Entry> = Vec::new();

@@ -31,10 +31,10 @@ pub fn watch(kinds: &mut Kinds, left: &[u8], refusal: u8, record: Option<&Record
 
 /// A whole record, accepted or not.
 fn whole(kinds: &mut Kinds, left: &[u8]) {
-    let count = left[records::COUNT_AT];
-    kinds.add(Kind::RecordCount, usize::from(count));
-    if count <= refusals::RECORD_ENTRIES {
-        for place in 0..usize::from(count) {
+    let count = usize::from(left[records::COUNT_AT]);
+    kinds.add(Kind::RecordCount, count);
+    if count <= refusals::ENTRIES {
+        for place in 0..count {
             kinds.add(Kind::UsedKind, place_and_kind(left, place));
         }
     }
@@ -54,7 +54,7 @@ fn accepted(kinds: &mut Kinds, left: &[u8], record: &Record) {
             kinds.add(Kind::AnonymousId, place);
         }
     }
-    for place in record.entries.len()..usize::from(refusals::RECORD_ENTRIES) {
+    for place in record.entries.len()..refusals::ENTRIES {
         kinds.add(Kind::UnusedKind, place_and_kind(left, place));
     }
     message(kinds, &left[records::MESSAGE_AT..refusals::RECORD], record);

@@ -5,14 +5,15 @@ use mathlib.Core.Path.{_≡_, ap, _∙_}
 use mathlib.Core.List.{map}
 use native.Mathlib.Omega.{arith}
 use lib.ListN.{length}
-use Rattle.record.specs.Record.{recordLength, parentLimit, entryOf, writtenFrom}
+use Rattle.render.specs.Entries.{entryLimit}
+use Rattle.record.specs.Record.{recordLength, entryOf, writtenFrom}
 use Rattle.record.specs.Promises.{entriesWith}
 use Rattle.record.proofs.RecordLaws.{entries-next}
 use Rattle.record.proofs.entries_of.Statement.{statement}
 use Rattle.record.proofs.entries_of.Tie as tie
 
 abbrev Inv-loop : tie.InvT-loop
-Inv-loop left parents entries₀ i₀ entries i = (i ≤ parents) × (recordLength ≤ length left) × (parents ≤ parentLimit) × (entries ≡ entriesWith (map entryOf (writtenFrom left 0 i)))
+Inv-loop left parents entries₀ i₀ entries i = (i ≤ parents) × (recordLength ≤ length left) × (parents ≤ entryLimit) × (entries ≡ entriesWith (map entryOf (writtenFrom left 0 i)))
 
 abbrev μ-loop : tie.MeasureT-loop
 μ-loop left parents entries₀ i₀ entries i = parents - i

@@ -4,13 +4,14 @@ use Prim.Native.Nat.{ℕ, _≤_, _-_}
 use mathlib.Core.Path.{_≡_, ap}
 use native.Mathlib.Omega.{arith}
 use lib.ListN.{length}
-use Rattle.record.specs.Record.{recordLength, parentLimit, kindLimit, writtenFrom, anyAbove}
+use Rattle.render.specs.Entries.{entryLimit}
+use Rattle.record.specs.Record.{recordLength, kindLimit, writtenFrom, anyAbove}
 use Rattle.record.proofs.RecordLaws.{above-hit, above-next, above-none}
 use Rattle.record.proofs.has_other_kind.Statement.{statement}
 use Rattle.record.proofs.has_other_kind.Tie as tie
 
 abbrev Inv-loop : tie.InvT-loop
-Inv-loop left parents i₀ i = (i ≤ parents) × (recordLength ≤ length left) × (parents ≤ parentLimit) × (anyAbove kindLimit (writtenFrom left 0 parents) ≡ anyAbove kindLimit (writtenFrom left i (parents - i)))
+Inv-loop left parents i₀ i = (i ≤ parents) × (recordLength ≤ length left) × (parents ≤ entryLimit) × (anyAbove kindLimit (writtenFrom left 0 parents) ≡ anyAbove kindLimit (writtenFrom left i (parents - i)))
 
 abbrev μ-loop : tie.MeasureT-loop
 μ-loop left parents i₀ i = parents - i

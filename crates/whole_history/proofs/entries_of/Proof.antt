@@ -3,7 +3,8 @@ use Prim.Native.Nat.{_≤_, _-_, min}
 use mathlib.Core.Path.{_≡_, refl}
 use native.Mathlib.Omega.{arith}
 use lib.ListN.{length}
-use Rattle.record.specs.Record.{recordLength, parentCount, parentLimit}
+use Rattle.render.specs.Entries.{entryLimit}
+use Rattle.record.specs.Record.{recordLength, parentCount}
 use Rattle.record.specs.Promises.{entriesWith}
 use Rattle.whole_history.proofs.RecordReads.{first, list-next, entries-done}
 use borrow.Author.Needs.{needs}
@@ -12,7 +13,7 @@ use Rattle.whole_history.proofs.entries_of.Tie as tie
 
 abbrev Inv-loop : tie.InvT-loop
 Inv-loop bytes count list₀ i₀ list i =
-    (i ≤ count) × (count ≤ parentLimit) × (recordLength ≤ length bytes) × (count ≡ min (parentCount bytes) parentLimit) × (list ≡ entriesWith (first bytes i) .list)
+    (i ≤ count) × (count ≤ entryLimit) × (recordLength ≤ length bytes) × (count ≡ min (parentCount bytes) entryLimit) × (list ≡ entriesWith (first bytes i) .list)
 
 abbrev μ-loop : tie.MeasureT-loop
 μ-loop bytes count list₀ i₀ list i = count - i

@@ -4,12 +4,13 @@ use Rattle.replay.proofs.records.put_entries.Statement.{statement}
 use Rattle.replay.proofs.records.put_entries.Tie as tie
 use Prim.Native.Nat.{_-_}
 use borrow.Author.Needs.{needs}
+use Rattle.render.specs.Entries.{entryLimit}
 
 abbrev Inv-loop : tie.InvT-loop
 Inv-loop out₀ count list now₀ i₀ out now i = Unit {0}
 
 abbrev μ-loop : tie.MeasureT-loop
-μ-loop out₀ count list now₀ i₀ out now i = 32 - i
+μ-loop out₀ count list now₀ i₀ out now i = entryLimit - i
 
 loop-holds : tie.Need-loop-holds Inv-loop μ-loop
 loop-holds c = search needs
