@@ -1,5 +1,4 @@
-//! Lists whose calls have no entries, one, as many as may be, one fewer, one more and a thousand, and a list of the widths that as many as may
-//! be have at most.
+//! Lists whose calls have no entries, one, as many as may be, one fewer, one more and a thousand, and a list of the greatest widths.
 
 use crate::machine::Machine;
 use crate::marked::PARENT_COLUMN;
