@@ -1,4 +1,6 @@
 // The cells of a row shape, after graph_to_row_shape.rs.
+#![tactic(auto)]
+
 ghost use Rattle.std.specs.Prelude.{◌≡◌, cond};
 ghost use Rattle.column.specs.Columns.{is_parent, is_ancestor};
 ghost use Rattle.cells.specs.Cells.{beside_node, pad_of, node_cell, link_cell, cell_of};

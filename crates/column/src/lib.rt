@@ -1,5 +1,7 @@
 // The columns of the graph, after column.rs: what a column is, merging, the lookups and reset.
 // They are held as an array of slots and a count; a count above the limit is read as the limit.
+#![tactic(auto)]
+
 ghost use Rattle.std.specs.Prelude.{◌≡◌, ◌+◌, min, max, set};
 ghost use Rattle.column.specs.Columns.{column_limit, rank as rank_of, holds, is_empty, is_reserved, is_ancestor, is_parent, is_named, column_at, merge as merged, first, find as findIn, vacant as vacantIn, direct, unblock as unblocked, live, empty_slot, slot_of, origin_or, started_by};
 
@@ -7,7 +9,7 @@ ghost use Rattle.column.specs.Columns.{column_limit, rank as rank_of, holds, is_
 pub const COLUMN_LIMIT: usize = 64;
 
 // A column of the graph; the last three hold an id.
-#[derive(Drop)]
+#[derive(Clone, Copy)]
 pub enum Column {
     Empty,
     Blocked,
@@ -18,21 +20,21 @@ pub enum Column {
 
 // What the array of columns holds for each column: the column, and the node whose row first named its id, which counts in an Ancestor or
 // Parent column only.
-#[derive(Drop)]
+#[derive(Clone, Copy)]
 pub struct Slot {
     pub column: Column,
     pub origin: u32,
 }
 
 // What a lookup gives: a column's index, or nothing.
-#[derive(Drop)]
+#[derive(Clone, Copy)]
 pub enum Found {
     At(usize),
     Nothing,
 }
 
 // Who started an id's line: the id does not wait, it was only reserved, or the node whose row first named it.
-#[derive(Drop)]
+#[derive(Clone, Copy)]
 pub enum Started {
     NotWaiting,
     Unnamed,

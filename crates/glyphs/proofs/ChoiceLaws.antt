@@ -14,7 +14,6 @@ use Rattle.column.specs.Columns.{column_limit}
 use Rattle.render.specs.declared.render.LinkLine.{LinkLine}
 use Rattle.render.specs.declared.types.Cell.{Cell}
 use Rattle.render.specs.declared.types.DashStyle.{DashStyle}
-use Rattle.render.specs.contracts.types.Cell.{the_type}
 use Rattle.render.specs.Lines.{blank_cell, node_to_pad, foot_pad}
 use Rattle.render.specs.Link.{no_marks}
 use Rattle.glyphs.specs.declared.Renderer.{Renderer}
@@ -230,8 +229,8 @@ module _ (t : List ℕ) (d : Drawing) (l : Line) (w n m : ℕ) (long : length d.
       }
 
 -- an array of cells has 64, by what the prover knows of an array that is a struct's field
-pub cells-long : (l : List Cell) → length (map the_type.to l) ≡ column_limit → length l ≡ column_limit
-cells-long l e = sym (length-map l the_type.to) ∙ e
+pub cells-long : (l : List Cell) → length l ≡ 64 → length l ≡ column_limit
+cells-long l e = e
 
 -- an array for a row's cells holds all numbers of a line
 pub chosen-all : {numbers before after : List ℕ} {r : ℕ} → Chooses numbers before after r → length before ≡ column_limit → first_cells r after ≡ numbers

@@ -262,7 +262,7 @@ pub fn box_table(renderer: Renderer, mark: u8) -> [u8; BOX_TABLE]
     let mut table = [0u8; BOX_TABLE];
     let glyphs = marked_glyphs(renderer, mark);
     let links = link_glyphs();
-    bytes::copy(&glyphs, &mut table);
-    bytes::copy(&links, &mut table[GLYPHS..]);
+    table[..GLYPHS].copy_from_slice(&glyphs);
+    table[GLYPHS..].copy_from_slice(&links);
     table
 }

@@ -1,4 +1,6 @@
 // What each cell of each prefix line is given, and its bytes, in the five renderers, after ascii.rs, ascii_large.rs and box_drawing.rs.
+#![tactic(auto)]
+
 mod ascii;
 mod ascii_large;
 mod box_drawing;
@@ -16,7 +18,7 @@ pub use table::{cells_length, trailing_blanks, write_cells, write_finished};
 pub use types::{Choice, Drawing, Line, Place, Row};
 
 // The five renderers.
-#[derive(Drop)]
+#[derive(Clone, Copy)]
 pub enum Renderer {
     Ascii,
     AsciiLarge,

@@ -45,7 +45,8 @@ fn write_glyph(out: &mut [u8], table: &[u8], n: u8, most: usize) -> usize
         return 0;
     }
     let from = n as usize * GLYPH + 1;
-    bytes::copy(&table[from..from + count], out)
+    out[..count].copy_from_slice(&table[from..from + count]);
+    count
 }
 
 // Writes a glyph by its eight places, all of them read before the first is written.

@@ -4,7 +4,7 @@ use column::COLUMN_LIMIT;
 use render::{Cell, DashStyle, LinkLine};
 
 // The lines of a row, in their order (`PrefixLineKind` in types.rs; large ASCII draws two link lines, and a term line is two).
-#[derive(Drop)]
+#[derive(Clone, Copy)]
 pub enum Line {
     PreNode,
     Node,
@@ -18,7 +18,7 @@ pub enum Line {
 }
 
 // What a cell is given.
-#[derive(Drop)]
+#[derive(Clone, Copy)]
 pub enum Choice {
     // Blanks.
     Space,
@@ -38,7 +38,7 @@ pub enum Choice {
 }
 
 // The facts of a row that its cells' choices depend on.
-#[derive(Drop)]
+#[derive(Clone, Copy)]
 pub struct Row {
     pub is_head: bool,
     pub is_root: bool,
@@ -52,7 +52,7 @@ pub struct Row {
 }
 
 // A cell with its index, and the next cell's link, which is empty past the end.
-#[derive(Drop)]
+#[derive(Clone, Copy)]
 pub struct Place {
     pub index: usize,
     pub cell: Cell,
@@ -60,7 +60,7 @@ pub struct Place {
 }
 
 // What the lines of a row are drawn from.
-#[derive(Drop)]
+#[derive(Clone, Copy)]
 pub struct Drawing {
     pub renderer: Renderer,
     pub row: Row,
@@ -70,7 +70,7 @@ pub struct Drawing {
 }
 
 // The numbers by which a cell is drawn that is given no link.
-#[derive(Drop)]
+#[derive(Clone, Copy)]
 pub struct PlainNumbers {
     pub space: u8,
     pub solid: u8,

@@ -1,4 +1,6 @@
 // The lent calls by value: each caller here makes the references that its call takes, of its own parameters.
+#![tactic(auto)]
+
 ghost use Rattle.std.specs.Prelude.{◌≤◌, min, ◌≡◌, take};
 ghost use Rattle.lineage.specs.Promises.{LentReserves, LentRows, LentPreview, LentWidth, LentOrigin, LentTexts};
 ghost use Rattle.lent.specs.Inner.{list_limit};

@@ -1,4 +1,6 @@
 // The public calls: reserving, row, preview, width and text in lent forms, each thin over its by-value core; the others are passed on as they are.
+#![tactic(auto)]
+
 ghost use Rattle.row_shape.specs.Promises.{Rows};
 ghost use Rattle.lineage.specs.Promises.{Copies, LentReserves, LentRows, LentPreview, LentWidth, LentOrigin, LentTexts};
 
@@ -25,21 +27,21 @@ pub use prefix_lines::{Written as LinesAnswer, next_prefix_lines};
 pub use record::{Outcome, Record, RecordAnswer, next_record};
 
 // What the row call gives: the refusal's number and the shape.
-#[derive(Drop)]
+#[derive(Clone, Copy)]
 pub struct ShapeAnswer {
     pub refusal: u8,
     pub shape: RowShape,
 }
 
 // A row's answer, and the shaper after it.
-#[derive(Drop)]
+#[derive(Clone, Copy)]
 struct RowDone {
     shaper: Shaper,
     answer: ShapeAnswer,
 }
 
 // What the text call gives: the refusal's number, the count of bytes written and the line measure.
-#[derive(Drop)]
+#[derive(Clone, Copy)]
 pub struct LengthAnswer {
     pub refusal: u8,
     pub length: usize,

@@ -1,4 +1,6 @@
 // The marks of a row's link line, after graph_to_row_shape.rs.
+#![tactic(auto)]
+
 ghost use Rattle.std.specs.Prelude.{◌≡◌, true, cond, ◌+◌, min, ltb};
 ghost use Rattle.render.specs.Link.{strokes};
 ghost use Rattle.links.specs.Links.{drawn_by, is_drawn, is_directly_drawn, is_indirectly_drawn, is_anonymously_drawn, found_as, is_at, bounds_of, passes_solid, passes_dashed, from_node, with_uprights, linked};
@@ -9,7 +11,7 @@ use render::{Ancestor, Marks};
 use slices::{greater, lesser};
 
 // Who draws in a column, by its kind: the last entry that met it, an Anonymous one too, or nobody.
-#[derive(Drop)]
+#[derive(Clone, Copy)]
 pub enum Drawn {
     Nobody,
     Indirect,
@@ -18,13 +20,13 @@ pub enum Drawn {
 }
 
 // One column of the parents' columns (the `BTreeMap` of parents).
-#[derive(Drop)]
+#[derive(Clone, Copy)]
 pub struct ParentColumn {
     pub drawn: Drawn,
 }
 
 // How far the entries' columns reach from the node's.
-#[derive(Drop)]
+#[derive(Clone, Copy)]
 pub struct AncestorColumnBounds {
     pub target: usize,
     pub min_ancestor: usize,
@@ -34,7 +36,7 @@ pub struct AncestorColumnBounds {
 }
 
 // The column that a single entry gave up in a swap, and whether it was Parent before the row.
-#[derive(Drop)]
+#[derive(Clone, Copy)]
 pub struct Swap {
     pub given_up: Found,
     pub was_direct: bool,

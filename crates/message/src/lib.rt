@@ -1,4 +1,6 @@
 // A message: its bytes, its lines (pad.rs and the `lines` that it pads), and blanks at the end of a line.
+#![tactic(auto)]
+
 ghost use Rattle.std.specs.Prelude.{◌≡◌, suc, ◌+◌, ◌≤◌, min, length, take, drop, cond, eqb};
 ghost use Rattle.slices.specs.Characters.{newline};
 ghost use Rattle.message.specs.Inner.{ends, block_length};

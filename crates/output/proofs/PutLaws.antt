@@ -41,8 +41,8 @@ module _ (t : TextState) where
 
 -- ---- the queued line
 -- its array has 512 bytes
-pub queue_long : (l : List ℕ) (f : ℕ → ℕ) → length (map f l) ≡ queue_limit → length l ≡ queue_limit
-queue_long l f e = sym (length-map l f) ∙ e
+pub queue_long : (l : List ℕ) → length l ≡ 512 → length l ≡ queue_limit
+queue_long l e = e
 
 -- a count past the end takes no more
 take-capped : (k : ℕ) (l : List ℕ) → take (min k (length l)) l ≡ take k l

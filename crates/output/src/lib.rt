@@ -1,4 +1,6 @@
 // Lines written into the output, and what is kept between rows, after output.rs. Each writer is lent the unwritten part of the output, and gives the count written.
+#![tactic(auto)]
+
 ghost use Rattle.std.specs.Prelude.{◌≡◌, [], ◌∷◌, min, eqb, ltb, length, get_or};
 ghost use Rattle.output.specs.Inner.{among, behind94, behind95};
 ghost use Rattle.output.specs.Measure.{box_characters, shifts, opening, measure_of};
@@ -12,7 +14,7 @@ use slices::{difference, greater, lesser};
 pub const QUEUE_LIMIT: usize = 512;
 
 // What is kept between rows (`OutputRendererState`): the queued line, if there is one, and how many lines the last row had.
-#[derive(Drop)]
+#[derive(Clone, Copy)]
 pub struct TextState {
     pub queued_pad_line: [u8; QUEUE_LIMIT],
     pub queued_length: usize,
@@ -21,7 +23,7 @@ pub struct TextState {
 }
 
 // What a writer of lines gives: the count of their bytes, and the measure of the longest.
-#[derive(Drop)]
+#[derive(Clone, Copy)]
 pub struct Put {
     pub length: usize,
     pub measure: usize,
@@ -129,7 +131,7 @@ pub fn write_ended(out: &mut [u8], bytes: &[u8]) -> usize
     if out.len() <= n {
         return 0;
     }
-    bytes::copy(bytes, out);
+    out[..n].copy_from_slice(bytes);
     out[n] = b'\n';
     n + 1
 }

@@ -1,4 +1,6 @@
 // Where a row's entries go, and what ends a row, after graph_to_row_shape.rs. The row call walks the entries.
+#![tactic(auto)]
+
 ghost use Rattle.std.specs.Prelude.{◌≡◌, cond, ◌&&◌, min, ltb, eqb};
 ghost use Rattle.column.specs.Columns.{live, or_else};
 ghost use Rattle.placing.specs.Placing.{column_of, held_by, column_of_parent};

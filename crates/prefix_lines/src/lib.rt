@@ -1,4 +1,6 @@
 // The renderer call, after row_shape_to_prefix_lines.rs, and the same lines in the listing program's form.
+#![tactic(auto)]
+
 ghost use Rattle.std.specs.Prelude.{◌≡◌, ◌≤◌};
 ghost use Rattle.column.specs.Columns.{column_limit};
 ghost use Rattle.prefix_lines.specs.Inner.{drawn_lines, framed_answer, room_refusal};
@@ -17,7 +19,7 @@ use render::{
 use writer::{Frame, write_lines};
 
 // A call's answer beside the output: the refusal, 0 for none, and the count of bytes written.
-#[derive(Drop)]
+#[derive(Clone, Copy)]
 pub struct Written {
     pub refusal: u8,
     pub length: usize,

@@ -9,7 +9,7 @@ use column::COLUMN_LIMIT;
 use glyphs::{Drawing, LINES, Line, choose_cells, is_present, line_at, write_cells};
 
 // What stands around a line's cells: the letter and the end, in a listing a colon and `$` too.
-#[derive(Drop)]
+#[derive(Clone, Copy)]
 pub(crate) enum Frame {
     Plain,
     Listed,

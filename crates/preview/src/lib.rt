@@ -1,4 +1,6 @@
 // The preview of a row: what the row call gives on a copy of the shaper, without the shape's cells.
+#![tactic(auto)]
+
 ghost use Rattle.render.specs.Entries.{listed};
 ghost use Rattle.preview.specs.Promises.{Previews};
 
@@ -8,7 +10,7 @@ use row_shape::next_row_shape;
 use shaper::Shaper;
 
 // What the preview gives: the refusal's number, the node's column, the width of the node line, and the columns after the row.
-#[derive(Drop)]
+#[derive(Clone, Copy)]
 pub struct PreviewAnswer {
     pub refusal: u8,
     pub node_column: usize,

@@ -1,4 +1,6 @@
 // Document 01's two programs: records are read one at a time from standard input, a step is taken on each, and its lines go to standard output.
+#![tactic(auto)]
+
 ghost use Rattle.std.specs.Prelude.{◌≡◌, length, replicate};
 ghost use Rattle.record.specs.Record.{record_length};
 ghost use Rattle.steps.specs.Steps.{page_step, listing_step};
@@ -17,14 +19,14 @@ const PAGE_ROOM: usize = 24576;
 const LISTING_ROOM: usize = 4096;
 
 // Which program runs.
-#[derive(Drop)]
+#[derive(Clone, Copy)]
 enum Program {
     Page,
     Listing,
 }
 
 // Whether a program goes on behind a record, and why not: its step stopped it, or a read or a write failed.
-#[derive(Drop)]
+#[derive(Clone, Copy)]
 pub enum Going {
     On,
     Stopped,
@@ -33,21 +35,21 @@ pub enum Going {
 }
 
 // How a program ended, and the number of the record at which it did.
-#[derive(Drop)]
+#[derive(Clone, Copy)]
 pub struct Run {
     pub going: Going,
     pub number: u64,
 }
 
 // What reading a record gave: the count of its bytes, fewer than a record's only where the input has ended, or that a read failed.
-#[derive(Drop)]
+#[derive(Clone, Copy)]
 enum Reading {
     Bytes(usize),
     Failed,
 }
 
 // What a record's turn gave.
-#[derive(Drop)]
+#[derive(Clone, Copy)]
 struct Turn {
     going: Going,
     progress: Progress,

@@ -1,4 +1,6 @@
 // Records of 128 bytes (document 01, "Added by us"), and the record call.
+#![tactic(auto)]
+
 ghost use Rattle.std.specs.Prelude.{◌≡◌, map, ◌+◌, ◌≤◌, length, take};
 ghost use Rattle.render.specs.Entries.{entry_limit};
 ghost use Rattle.record.specs.Record.{record_length, parent_count, kind_limit, message_room, id_at, entry_of, written_at, written_from, any_above, up_to_zero, record_of, no_record};
@@ -30,7 +32,7 @@ const ENTRY: usize = 5;
 pub const MESSAGE_ROOM: usize = 82;
 
 // How a record call went.
-#[derive(Drop)]
+#[derive(Clone, Copy)]
 pub enum Outcome {
     // There is a record.
     Ready,
@@ -41,7 +43,7 @@ pub enum Outcome {
 }
 
 // A record, decoded. The message is the first bytes of its array.
-#[derive(Drop)]
+#[derive(Clone, Copy)]
 pub struct Record {
     pub id: u32,
     pub mark: u8,
@@ -51,7 +53,7 @@ pub struct Record {
 }
 
 // What the record call gives: a record that holds nothing, unless the outcome is Ready.
-#[derive(Drop)]
+#[derive(Clone, Copy)]
 pub struct RecordAnswer {
     pub outcome: Outcome,
     pub record: Record,

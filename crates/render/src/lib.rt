@@ -1,4 +1,6 @@
 // What row shapes are made of, after render.rs and types.rs.
+#![tactic(auto)]
+
 mod mark;
 mod refusals;
 mod render;

@@ -7,7 +7,7 @@ ghost use Rattle.render.specs.Link.{meets, joined, only, unmarked, link_of};
 pub const ENTRY_LIMIT: usize = 8;
 
 // A parent entry's kind and id.
-#[derive(Drop)]
+#[derive(Clone, Copy)]
 pub enum Ancestor {
     // The node is an eventual ancestor.
     Ancestor(u32),
@@ -31,13 +31,13 @@ impl Ancestor {
 }
 
 // A parent entry.
-#[derive(Drop)]
+#[derive(Clone, Copy)]
 pub struct Entry {
     pub ancestor: Ancestor,
 }
 
 // The parent entries of a row by value: the first `count` of the list, unless there were too many.
-#[derive(Drop)]
+#[derive(Clone, Copy)]
 pub struct Entries {
     pub list: [Entry; ENTRY_LIMIT],
     pub count: usize,
@@ -83,7 +83,7 @@ impl Entries {
 }
 
 // A column in the node row.
-#[derive(Drop)]
+#[derive(Clone, Copy)]
 pub enum NodeLine {
     // Blank.
     Blank,
@@ -96,7 +96,7 @@ pub enum NodeLine {
 }
 
 // A column in a padding row.
-#[derive(Drop)]
+#[derive(Clone, Copy)]
 pub enum PadLine {
     // Blank.
     Blank,
@@ -107,13 +107,13 @@ pub enum PadLine {
 }
 
 // A column in a linking row: a set of marks.
-#[derive(Drop)]
+#[derive(Clone, Copy)]
 pub struct LinkLine {
     pub bits: u16,
 }
 
 // The thirteen marks of a link cell, by name.
-#[derive(Drop)]
+#[derive(Clone, Copy)]
 pub struct Marks {
     pub horiz_parent: bool,
     pub horiz_ancestor: bool,

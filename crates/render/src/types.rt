@@ -6,7 +6,7 @@ use crate::render::{LinkLine, NodeLine, PadLine};
 use column::COLUMN_LIMIT;
 
 // How indirect-ancestor dash lines continue across rows.
-#[derive(Drop)]
+#[derive(Clone, Copy)]
 pub enum DashStyle {
     // Ancestor lines stay dashed until the branch disappears.
     Persistent,
@@ -15,21 +15,21 @@ pub enum DashStyle {
 }
 
 // Where link-line padding is placed relative to the node line.
-#[derive(Drop)]
+#[derive(Clone, Copy)]
 pub enum LinkLinePlacement {
     Top,
     Bottom,
 }
 
 // The style of a row shape (`GraphRowShapeStyle` in types.rs).
-#[derive(Drop)]
+#[derive(Clone, Copy)]
 pub struct Style {
     pub dash_style: DashStyle,
     pub link_line_placement: LinkLinePlacement,
 }
 
 // The options of a shaper (`OutputRendererOptions` in output.rs).
-#[derive(Drop)]
+#[derive(Clone, Copy)]
 pub struct Options {
     pub min_row_height: usize,
     pub stagger_consecutive_disconnected_nodes: bool,
@@ -37,7 +37,7 @@ pub struct Options {
 }
 
 // One column of a row shape, with its cell in each line. The marks stand first, so that a cell has no gap and is copied as one word.
-#[derive(Drop)]
+#[derive(Clone, Copy)]
 pub struct Cell {
     pub link: LinkLine,
     pub link_from_node: LinkLine,
@@ -49,7 +49,7 @@ pub struct Cell {
 
 // An abstract graph row shape for one node (`GraphRowShape` in types.rs). Its lines are the first `width` cells;
 // the parent columns are those whose cell has `parent` set.
-#[derive(Drop)]
+#[derive(Clone, Copy)]
 pub struct RowShape {
     pub node: u32,
     pub merge: bool,

@@ -1,4 +1,6 @@
 // Reads a stream of calls from standard input and prints every answer (docs/REPLAY.md).
+#![tactic(auto)]
+
 mod answers;
 mod codes;
 mod input;
@@ -16,7 +18,7 @@ use printer::{Buffer, Printer};
 use run::State;
 
 // What is kept from command to command: the state, the printer, and where the bytes not yet answered begin and end.
-#[derive(Drop)]
+#[derive(Clone, Copy)]
 struct Progress {
     state: State,
     printer: Printer,

@@ -14,7 +14,7 @@ pub(crate) const ROOM: usize = 300000;
 pub(crate) type Page = [u8; ROOM];
 
 // What a text call is given beside the entries, the message and the output.
-#[derive(Drop)]
+#[derive(Clone, Copy)]
 pub(crate) struct Text {
     pub(crate) shaper: Shaper,
     pub(crate) state: TextState,

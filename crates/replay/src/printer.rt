@@ -9,7 +9,7 @@ pub(crate) const ROOM: usize = 65536;
 pub(crate) type Buffer = [u8; ROOM];
 
 // How many bytes wait in the buffer, and whether more can be printed: not so after a write that failed, or the last.
-#[derive(Drop)]
+#[derive(Clone, Copy)]
 pub(crate) struct Printer {
     pub(crate) used: usize,
     pub(crate) open: bool,

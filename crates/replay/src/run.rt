@@ -13,7 +13,7 @@ use shaper::{HEIGHT_LIMIT, Shaper};
 const MESSAGE: usize = 65535;
 
 // What the commands work on, and what the last record call and the last preview gave.
-#[derive(Drop)]
+#[derive(Clone, Copy)]
 pub(crate) struct State {
     pub(crate) shaper: Shaper,
     pub(crate) shape: RowShape,
@@ -25,7 +25,7 @@ pub(crate) struct State {
 // What a command answers, beside the state that it leaves. The calls give their refusal's number; the answers of a record call and of a
 // preview are in the state. A renderer call and a text call leave their output on the page, and give the output's length last; in front
 // of it, a text call gives the measure.
-#[derive(Drop)]
+#[derive(Clone, Copy)]
 pub(crate) enum Answer {
     NotBuilt,
     List(u32),
@@ -45,7 +45,7 @@ pub(crate) enum Answer {
 }
 
 // What a command gives: its answer and the state after it.
-#[derive(Drop)]
+#[derive(Clone, Copy)]
 pub(crate) struct Reply {
     pub(crate) answer: Answer,
     pub(crate) state: State,

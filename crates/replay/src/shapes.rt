@@ -9,7 +9,7 @@ use render::{Cell, RowShape};
 const FIELDS: u32 = 9;
 
 // The lines of cells.
-#[derive(Drop)]
+#[derive(Clone, Copy)]
 enum Line {
     Node,
     Link,

@@ -47,7 +47,7 @@ const MARKS: u32 = 8191;
 const WORDS: u32 = 29;
 
 // What a field holds: a set of words or, where that is empty, a number.
-#[derive(Drop)]
+#[derive(Clone, Copy)]
 pub(crate) struct Value {
     words: u32,
     number: u64,

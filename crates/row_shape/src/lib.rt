@@ -1,4 +1,6 @@
 // The row call by value, after graph_to_row_shape.rs.
+#![tactic(auto)]
+
 ghost use Rattle.std.specs.Prelude.{◌≡◌};
 ghost use Rattle.row_shape.specs.Row.{no_shape};
 ghost use Rattle.row_shape.specs.Inner.{separator_with};
@@ -11,7 +13,7 @@ use render::{ACCEPTED, Cell, Entries, NODE_LINE_TOO_WIDE, Options, RowShape, TOO
 use shaper::{Shaper, find_column};
 
 // What the row call gives: the refusal's number, the shape, and the shaper after it.
-#[derive(Drop)]
+#[derive(Clone, Copy)]
 pub struct RowAnswer {
     pub refusal: u8,
     pub shape: RowShape,

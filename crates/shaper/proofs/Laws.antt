@@ -21,19 +21,18 @@ use Rattle.render.specs.Refusals.{not_refused, height_above_limit, no_column_lef
 use Rattle.shaper.specs.declared.Shaper.{Shaper}
 use Rattle.shaper.specs.Shaper.{height_limit, view_of, View, fresh, refused_options, Fresh, with_columns, reserve, reserved_slot, Reserves, origin}
 use Rattle.column.specs.declared.Found.{Found}
-use Rattle.column.specs.contracts.Slot.{the_type}
 use Rattle.render.specs.declared.render.Entry.{Entry}
 use Rattle.render.specs.declared.types.Options.{Options}
 use Rattle.render.specs.contracts.render.Entry as Entry'
 use Rattle.render.proofs.EntryLaws.{few-count}
 
 -- an array of slots has 64, by what the prover knows of an array that is a struct's field
-pub slots-long : (l : List Slot) → length (map the_type.to l) ≡ column_limit → length l ≡ column_limit
-slots-long l e = sym (length-map l the_type.to) ∙ e
+pub slots-long : (l : List Slot) → length l ≡ 64 → length l ≡ column_limit
+slots-long l e = e
 
 -- and an array of entries has 8
-pub entries-long : (l : List Entry) → length (map (Entry'.the_type).to l) ≡ entry_limit → length l ≡ entry_limit
-entries-long l e = sym (length-map l (Entry'.the_type).to) ∙ e
+pub entries-long : (l : List Entry) → length l ≡ 8 → length l ≡ entry_limit
+entries-long l e = e
 
 -- entries that are not too many are at most 8
 pub few : (es : Entries) → is_too_many (listed es) ≡ false → es.count ≤ entry_limit

@@ -1,4 +1,6 @@
 // The shaper: its state, the new shaper call, the reserving call and the node's column, after graph_to_row_shape.rs.
+#![tactic(auto)]
+
 ghost use Rattle.std.specs.Prelude.{◌≡◌};
 ghost use Rattle.column.specs.Columns.{live, origins, or_else};
 ghost use Rattle.shaper.specs.Shaper.{view_of, view_with, fresh, refused_options, origin as originOfId, Fresh, Reserves};
@@ -13,7 +15,7 @@ use render::{
 pub const HEIGHT_LIMIT: usize = 16;
 
 // The state of the first pipeline stage (`GraphRowShaper` in graph_to_row_shape.rs).
-#[derive(Drop)]
+#[derive(Clone, Copy)]
 pub struct Shaper {
     pub slots: [Slot; COLUMN_LIMIT],
     pub count: usize,
@@ -22,7 +24,7 @@ pub struct Shaper {
 }
 
 // What a call that only changes the shaper gives: the refusal's number, and the shaper after it.
-#[derive(Drop)]
+#[derive(Clone, Copy)]
 pub struct Answer {
     pub refusal: u8,
     pub shaper: Shaper,

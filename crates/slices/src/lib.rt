@@ -1,4 +1,6 @@
 // What every layer needs of numbers and of bytes: the greater and the lesser of two numbers, their difference, bytes written at the start of an output.
+#![tactic(auto)]
+
 ghost use Rattle.std.specs.Prelude.{◌≡◌, ◌-◌, min, max};
 ghost use Rattle.slices.specs.Joins.{Writes};
 
@@ -33,5 +35,6 @@ pub fn write_bytes(out: &mut [u8], bytes: &[u8]) -> usize
     if out.len() < bytes.len() {
         return 0;
     }
-    bytes::copy(bytes, out)
+    out[..bytes.len()].copy_from_slice(bytes);
+    bytes.len()
 }

@@ -1,4 +1,6 @@
 // One step of document 01's two programs: a record's bytes to the bytes of its lines, and what is kept for the next record.
+#![tactic(auto)]
+
 ghost use Rattle.std.specs.Prelude.{◌≡◌, ◌+◌, ◌≤◌, length, ◌++◌};
 ghost use Rattle.slices.specs.Joins.{over};
 ghost use Rattle.record.specs.Record.{message_room};
@@ -24,7 +26,7 @@ const MOST_DIGITS: usize = 20;
 pub const LINE_ROOM: usize = 64;
 
 // What a program keeps between records: both states, and the number of the next record.
-#[derive(Drop)]
+#[derive(Clone, Copy)]
 pub struct Progress {
     pub shaper: Shaper,
     pub state: TextState,
@@ -32,7 +34,7 @@ pub struct Progress {
 }
 
 // What a step gives beside the output: the count of bytes written, whether the program goes on, and what it keeps.
-#[derive(Drop)]
+#[derive(Clone, Copy)]
 pub struct Step {
     pub length: usize,
     pub goes_on: bool,

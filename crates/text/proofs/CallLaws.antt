@@ -1,5 +1,5 @@
 -- Laws of the text call: its answers, one for each way out.
-use mathlib.Core.Path.{◌≡◌, refl, sym, ap, ◌∙◌}
+use mathlib.Core.Path.{◌≡◌, refl, sym, ap, ap₂, ◌∙◌}
 use mathlib.Core.Bool.{true, false, cond}
 use mathlib.Core.List.{List}
 use Prim.Native.Nat.{ℕ, zero, suc, ◌<◌, ◌≤◌}
@@ -9,6 +9,7 @@ use lib.Dec.{ltb}
 use lib.ListN.{length}
 use Rattle.column.specs.Columns.{column_limit}
 use Rattle.render.specs.declared.render.Entries.{Entries}
+use Rattle.render.specs.declared.types.RowShape.{RowShape}
 use Rattle.render.specs.Entries.{listed}
 use Rattle.render.specs.Mark.{is_mark}
 use Rattle.render.specs.Refusals.{not_refused, mark_outside_span, message_too_long, message_byte_not_writable, output_shorter_than_lines, refusal}
@@ -97,7 +98,8 @@ module _ (s : Shaper) (t : TextState) (q : Renderer) (n : ℕ) (es : Entries) (m
           drawn = text_lines finish (glyphs_of q) (text_view_of t) q g.shape mark (lines_of message) k
 
           drawn-same : drawn ≡ lines
-          drawn-same = rw (shape_same, v) refl
+          drawn-same =
+              ap₂ (λ (h : RowShape) (j : ℕ). text_lines finish (glyphs_of q) (text_view_of t) q h mark (lines_of message) j) shape_same v
 
           number_same : number ≡ x.refusal
           number_same =
@@ -124,7 +126,8 @@ module _ (s : Shaper) (t : TextState) (q : Renderer) (n : ℕ) (es : Entries) (m
               let end : TextView = text_after (glyphs_of q) q called.shape mark (lines_of message) (view_of s).height in
               rw e (record {
                 reply =
-                    said f lines called.view end drawn-same (ap (λ (p : RowReply). p.view) u.reply) (rw (shape_same, v) refl)
+                    said f lines called.view end drawn-same (ap (λ (p : RowReply). p.view) u.reply)
+                    (ap₂ (λ (h : RowShape) (j : ℕ). text_after (glyphs_of q) q h mark (lines_of message) j) shape_same v)
                     ∙ ap (λ (c : ℕ). text_answer c lines out (view_of s) called.view (text_view_of t) end) (sym (number_same ∙ f));
                 refused = λ d. absurd (d refl);
                 fits = λ d. u.fits z;

@@ -1,5 +1,5 @@
 -- Laws of a row's text: the lines that the code draws are those of the definition, and so is the text state after them.
-use mathlib.Core.Path.{◌≡◌, refl, sym, ap, ap₂, ◌∙◌}
+use mathlib.Core.Path.{◌≡◌, refl, sym, ap, ap₂, subst, ◌∙◌}
 use mathlib.Core.Bool.{Bool, true, false, cond, not, ◌&&◌}
 use mathlib.Core.List.{List, [], ◌∷◌, ◌++◌, map}
 use Prim.Native.Nat.{ℕ, suc, ◌+◌, ◌-◌, ◌*◌, ◌<◌, ◌≤◌, min, max}
@@ -156,9 +156,9 @@ module _ (q : Renderer) (g : RowShape) where
       shown-same : repeated (λ (l : PrefixLine). times g.style.link_line_placement (needed q g (length (lines_of m)) height) l.kind) (lines q g)
           ≡ map (line_of q g) (spread (line_times plan q (row_of g)) all_lines)
       shown-same =
-          rw (needed-same (length (lines_of m)) height)
-          (repeated-map (λ (l : PrefixLine). times g.style.link_line_placement plan.needed l.kind) (line_of q g) (keep (is_present q (row_of g)) all_lines)
-          ∙ ap (map (line_of q g)) (spread-kept (λ (l : Line). times g.style.link_line_placement plan.needed l) (is_present q (row_of g)) all_lines))
+          ap (λ (n : ℕ). repeated (λ (l : PrefixLine). times g.style.link_line_placement n l.kind) (lines q g)) (needed-same (length (lines_of m)) height)
+          ∙ repeated-map (λ (l : PrefixLine). times g.style.link_line_placement plan.needed l.kind) (line_of q g) (keep (is_present q (row_of g)) all_lines)
+          ∙ ap (map (line_of q g)) (spread-kept (λ (l : Line). times g.style.link_line_placement plan.needed l) (is_present q (row_of g)) all_lines)
 
       rows_same : drawn (prefixes table (drawing_of g q mark) plan) m ≡ row_lines finish (glyphs_of q) q g mark (lines_of m) height
       rows_same =
@@ -313,7 +313,8 @@ module _ (t : TextState) (q : Renderer) (g : RowShape) (mark : ℕ) (m : List �
     prefixes-span : AllSpan (whole_measure d) (prefixes table d p)
     prefixes-span =
         let n : min g.width column_limit ≡ length (cells_of g) = omega (arith, length-take g.width g.cells, long) in
-        rw de (span-map (prefix_measure q (min g.width column_limit)) (λ (l : Line). cells_text table (numbers_in table (drawing_of g q mark) l))
+        subst (λ (x : Drawing). AllSpan (whole_measure x) (prefixes table x p)) (sym de)
+        (span-map (prefix_measure q (min g.width column_limit)) (λ (l : Line). cells_text table (numbers_in table (drawing_of g q mark) l))
         (λ (l : Line). rw (n, prefix_same q g mark table holds l) (prefix-spans mark marked (glyphs_of q) q (own-two q) g l)) (spread (line_times p q (row_of g)) all_lines))
 
     pub texts : all_of is_writable m ≡ true → (before after : List ℕ) (r : RowText)
@@ -321,8 +322,10 @@ module _ (t : TextState) (q : Renderer) (g : RowShape) (mark : ℕ) (m : List �
     texts writable before after r w =
         let first : List (List ℕ) = begin_row finish g.separator_line (text_view_of t) in
         let ls : all_lines_of table d p m (text_view_of t) g.separator_line ≡ text_lines finish (glyphs_of q) (text_view_of t) q g mark (lines_of m) height
-        = rw (plan-is, de) (ap (λ (x : List (List ℕ)). first ++ x) (rows_same q g mark table holds m height)) in
-        let s : state_after table d p ≡ text_after (glyphs_of q) q g mark (lines_of m) height = rw (plan-is, de) (state-same q g mark table holds m height) in
+        = ap₂ (λ (x : Drawing) (y : Plan). all_lines_of table x y m (text_view_of t) g.separator_line) de plan-is
+        ∙ ap (λ (x : List (List ℕ)). first ++ x) (rows_same q g mark table holds m height) in
+        let s : state_after table d p ≡ text_after (glyphs_of q) q g mark (lines_of m) height
+        = ap₂ (λ (x : Drawing) (y : Plan). state_after table x y) de plan-is ∙ state-same q g mark table holds m height in
         let k : measure_in table d p m (text_view_of t) g.separator_line ≡ line_measure (all_lines_of table d p m (text_view_of t) g.separator_line)
         = ap (λ (ns : List ℕ). max (line_measure first) (greatest ns)) (lines-measure (whole_measure d) (prefixes table d p) m prefixes-span writable)
         ∙ sym (measure-append first (drawn (prefixes table d p) m)) in

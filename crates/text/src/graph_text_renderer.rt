@@ -14,7 +14,7 @@ use row_shape::next_row_shape;
 use shaper::{HEIGHT_LIMIT, Shaper};
 
 // What the text call gives beside the output: the refusal, 0 for none, the count of bytes written, the line measure, and both states after it.
-#[derive(Drop)]
+#[derive(Clone, Copy)]
 pub struct TextAnswer {
     pub refusal: u8,
     pub length: usize,

@@ -1,4 +1,6 @@
 // Text: the lines of a row with its message, and the text call.
+#![tactic(auto)]
+
 mod graph_text_renderer;
 mod lines;
 mod prefix_lines_to_text;

@@ -15,7 +15,7 @@ use output::{Put, write_ended};
 use slices::difference;
 
 // How long a prefix line is: the count of its bytes, and that without the blanks at the end.
-#[derive(Drop)]
+#[derive(Clone, Copy)]
 pub struct Lengths {
     pub all: usize,
     pub finished: usize,

@@ -22,7 +22,7 @@ use render::{ACCEPTED, LinkLinePlacement, OUTPUT_SHORTER_THAN_LINES, RowShape};
 use slices::{difference, greater, lesser};
 
 // How a row's lines are repeated: where the link lines stand, how many lines the row has in any case, and how many are needed beyond them.
-#[derive(Drop)]
+#[derive(Clone, Copy)]
 pub struct Plan {
     pub placement: LinkLinePlacement,
     pub fixed: usize,
@@ -30,7 +30,7 @@ pub struct Plan {
 }
 
 // What a writer of a row's lines gives: the count of their bytes, the measure of the longest, and where the next message line starts.
-#[derive(Drop)]
+#[derive(Clone, Copy)]
 pub struct RowPut {
     pub length: usize,
     pub measure: usize,
@@ -38,14 +38,14 @@ pub struct RowPut {
 }
 
 // What a count of a row's lines gives: the count of their bytes, and where the next message line starts.
-#[derive(Drop)]
+#[derive(Clone, Copy)]
 pub struct Counted {
     pub length: usize,
     pub next: usize,
 }
 
 // What a writer of a row's text gives beside the output: the refusal, 0 for none, the count of bytes written, the line measure, and the text state after it.
-#[derive(Drop)]
+#[derive(Clone, Copy)]
 pub struct RowText {
     pub refusal: u8,
     pub length: usize,

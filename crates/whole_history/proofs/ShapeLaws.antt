@@ -11,7 +11,6 @@ use lib.ListN.{length, get_or, take, drop, length-append, length-map, length-tak
 use lib.Seq.{take_all, take-suc, length-take-le, drop-append-add, drop-drop, drop-cons}
 use Rattle.column.specs.Columns.{column_limit}
 use Rattle.render.specs.declared.types.Cell.{Cell}
-use Rattle.render.specs.contracts.types.Cell.{the_type}
 use Rattle.render.specs.declared.types.RowShape.{RowShape}
 use Rattle.slices.specs.Joins.{joins, over, Writes}
 use Rattle.slices.proofs.JoinLaws.{joins-append}
@@ -19,8 +18,8 @@ use Rattle.slices.proofs.OverLaws.{part-written, writes-all, writes-none, wrote,
 use Rattle.whole_history.specs.Shapes.{cell_bytes, head_bytes, shape_bytes, node_bytes}
 
 -- a shape's array has 64 cells
-pub cells-long : (l : List Cell) → length (map the_type.to l) ≡ column_limit → length l ≡ column_limit
-cells-long l e = sym (length-map l the_type.to) ∙ e
+pub cells-long : (l : List Cell) → length l ≡ 64 → length l ≡ column_limit
+cells-long l e = e
 
 -- twelve bytes of the row, eight of each cell
 head-length : (g : RowShape) → length (head_bytes g) ≡ 12

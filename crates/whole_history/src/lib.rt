@@ -1,5 +1,7 @@
 // Whole histories: the row call, the preview, the renderer call and the text call on every record of a history, for bench, which times them
 // beside the Rust.
+#![tactic(auto)]
+
 ghost use Rattle.std.specs.Prelude.{◌≡◌, false, ◌+◌, ◌≤◌, ◌%◌, length, take};
 ghost use Rattle.slices.specs.Joins.{Writes};
 ghost use Rattle.render.specs.Entries.{entry_limit};

@@ -1,4 +1,6 @@
 // The width call, after `width_with_options` in graph_to_row_shape.rs.
+#![tactic(auto)]
+
 ghost use Rattle.std.specs.Prelude.{◌≡◌, suc, ◌-◌, ◌≤◌};
 ghost use Rattle.column.specs.Columns.{column_limit, is_empty, live};
 ghost use Rattle.render.specs.Entries.{entry_limit, given};
@@ -12,21 +14,21 @@ use render::{ACCEPTED, Entries, TOO_MANY_ENTRIES};
 use shaper::Shaper;
 
 // The node of a width call.
-#[derive(Drop)]
+#[derive(Clone, Copy)]
 pub enum NewNode {
     Node(u32),
     Absent,
 }
 
 // What the width call gives: the refusal's number and the width.
-#[derive(Drop)]
+#[derive(Clone, Copy)]
 pub struct WidthAnswer {
     pub refusal: u8,
     pub width: usize,
 }
 
 // How many columns there are and, of them, Empty ones.
-#[derive(Drop)]
+#[derive(Clone, Copy)]
 struct Room {
     wide: usize,
     free: usize,

@@ -1,0 +1,17 @@
+-- The first Empty column but column `skip`.
+use Prim.Native.Nat.{◌≤◌, ◌-◌}
+use mathlib.Core.Path.{◌≡◌, sym, ◌∙◌}
+use native.Mathlib.Omega.{arith}
+use borrow.Author.Rules.{rules}
+use lib.ListN.{drop, set, length-set}
+use lib.Seq.{lt-length-set}
+use Rattle.column.specs.Columns.{live, first, is_empty}
+use Rattle.column.proofs.Laws.{later, later-zero, first-hit, first-miss, first-end, live_at, live_below, live-past, other-empty}
+use Rattle.column.specs.declared.Column.TheVariants.{Blocked}
+use Rattle.column.proofs.first_other_empty.Given as goal
+
+abbrev pub invariant-loop-place : goal.invariant-loop-place
+invariant-loop-place l = (l.place ≤ l.n) × (first is_empty (set (live l.count l.slots) l.skip Blocked) ≡ later l.place (first is_empty (drop l.place (set (live l.count l.slots) l.skip Blocked))))
+
+abbrev pub decreases-loop-place : goal.decreases-loop-place
+decreases-loop-place l = l.n - l.place
