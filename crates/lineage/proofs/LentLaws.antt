@@ -82,7 +82,13 @@ measured s n l es r c h = h.reply ∙ ap (width (view_of s) n) c ∙ width-cappe
 pub text-capped : (v : View) (t : TextView) (q : Renderer) (n : ℕ) (es : List Ancestor) (mark : ℕ) (message out : List ℕ)
     → text v t q n (capped es) mark message out ≡ text v t q n es mark message out
 unfolding text_with
-text-capped v t q n es mark message out = rw (row-capped v n es)
+text-capped v t q n es mark message out =
+    let ms : List (List ℕ) = lines_of message in
+    ap
+    (λ (r : RowReply).
+    let ls : List (List ℕ) = text_lines finish (glyphs_of q) t q r.shape mark ms v.height in
+    text_answer (refusal (text_checks mark message r (text_of ls) out)) ls out v r.view t (text_after (glyphs_of q) q r.shape mark ms v.height))
+    (row-capped v n es)
 
 -- a refused answer leaves the output as it was
 answer-kept : (k : ℕ) (ls : List (List ℕ)) (out : List ℕ) (v w : View) (t u : TextView) → ((text_answer k ls out v w t u).refusal ≡ 0 → ⊥) → (text_answer k ls out v w t u).output ≡ out
