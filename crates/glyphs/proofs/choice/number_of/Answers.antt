@@ -11,4 +11,4 @@ pub returns-in-AsciiLarge : goal.returns-in-AsciiLarge
 returns-in-AsciiLarge c = rw c.in-AsciiLarge.is c.number-in-AsciiLarge.ensures
 
 pub returns-in-Square : goal.returns-in-Square
-returns-in-Square c = rw (box-number _ _ _ _ c.in-Ascii/in-AsciiLarge/in-Square.keys3) c.number-in-Square.ensures
+returns-in-Square c = rw (box-number _ _ _ _ c.in-Square.keys3) c.number-in-Square.ensures

@@ -6,4 +6,4 @@ use Rattle.glyphs.proofs.choice.plain_numbers.Goals as goal
 pub returns-in-Square : goal.returns-in-Square
 returns-in-Square c = 
     let a = c.args in
-    box-plain _ _ a.index _ c.in-Ascii/in-AsciiLarge/in-Square.keys3 (c.plain_numbers-in-Square.ensures a.index)
+    box-plain _ _ a.index _ c.in-Square.keys3 (c.plain_numbers-in-Square.ensures a.index)
