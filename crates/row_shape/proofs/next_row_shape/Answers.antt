@@ -17,205 +17,7 @@ use Rattle.shaper.proofs.Laws.{slots-long, entries-long}
 use Rattle.placing.proofs.PlacingLaws.{Carrying, Going, going-over, going_next, carrying-next}
 use Rattle.row_shape.proofs.NextRow.{row-too-many, row-no-column, column-within, Begun, begun, bare, count-within, row-start, row_carries, entry_next, row_walked, row-no-room, other-within, row_done, Plain, plain-start, plain-next, Drawing, drawing-start, drawing-next}
 use Rattle.row_shape.proofs.next_row_shape.Goals as goal
-
-are-too-many-requires :
-    tie.Need-are-too-many-requires invariant-loop decreases-loop invariant-loop2 decreases-loop2 invariant-loop3 decreases-loop3 invariant-loop4 decreases-loop4 invariant-loop5 decreases-loop5
-are-too-many-requires c κs = search rules
-
-refused-row-requires :
-    tie.Need-refused-row-requires invariant-loop decreases-loop invariant-loop2 decreases-loop2 invariant-loop3 decreases-loop3 invariant-loop4 decreases-loop4 invariant-loop5 decreases-loop5
-refused-row-requires c κs = search rules
-
-live-count-requires :
-    tie.Need-live-count-requires invariant-loop decreases-loop invariant-loop2 decreases-loop2 invariant-loop3 decreases-loop3 invariant-loop4 decreases-loop4 invariant-loop5 decreases-loop5
-live-count-requires c κs = search rules
-
-find-column-requires :
-    tie.Need-find-column-requires invariant-loop decreases-loop invariant-loop2 decreases-loop2 invariant-loop3 decreases-loop3 invariant-loop4 decreases-loop4 invariant-loop5 decreases-loop5
-find-column-requires c κs = search rules
-
-refused-row-requires-2 :
-    tie.Need-refused-row-requires-2 invariant-loop decreases-loop invariant-loop2 decreases-loop2 invariant-loop3 decreases-loop3 invariant-loop4 decreases-loop4 invariant-loop5 decreases-loop5
-refused-row-requires-2 c κs = search rules
-
-array-copy-out-node-slot :
-    tie.Need-array-copy-out-node-slot invariant-loop decreases-loop invariant-loop2 decreases-loop2 invariant-loop3 decreases-loop3 invariant-loop4 decreases-loop4 invariant-loop5 decreases-loop5
-array-copy-out-node-slot c = (column-within _ _ _ c.before.before.before.find-column.ensures c.before.column.given.1)
-
-placeholder-requires :
-    tie.Need-placeholder-requires invariant-loop decreases-loop invariant-loop2 decreases-loop2 invariant-loop3 decreases-loop3 invariant-loop4 decreases-loop4 invariant-loop5 decreases-loop5
-placeholder-requires c κs = search rules
-
-array-set-from-slots :
-    tie.Need-array-set-from-slots invariant-loop decreases-loop invariant-loop2 decreases-loop2 invariant-loop3 decreases-loop3 invariant-loop4 decreases-loop4 invariant-loop5 decreases-loop5
-array-set-from-slots c = omega (arith, (column-within _ _ _ c.before.before.before.before.before.before.before.find-column.ensures c.before.before.before.before.before.column.given.1), c.before.placeholder.ensures)
-
-array-set-from-slots-2 :
-    tie.Need-array-set-from-slots-2 invariant-loop decreases-loop invariant-loop2 decreases-loop2 invariant-loop3 decreases-loop3 invariant-loop4 decreases-loop4 invariant-loop5 decreases-loop5
-array-set-from-slots-2 c = (column-within _ _ _ c.before.before.before.before.before.before.before.before.find-column.ensures c.before.before.before.before.before.before.column.given.1)
-
-count-with-requires :
-    tie.Need-count-with-requires invariant-loop decreases-loop invariant-loop2 decreases-loop2 invariant-loop3 decreases-loop3 invariant-loop4 decreases-loop4 invariant-loop5 decreases-loop5
-count-with-requires c κs = search rules
-
-element-copy-out-entry :
-    tie.Need-element-copy-out-entry invariant-loop decreases-loop invariant-loop2 decreases-loop2 invariant-loop3 decreases-loop3 invariant-loop4 decreases-loop4 invariant-loop5 decreases-loop5
-element-copy-out-entry c = let l = c.before in
-    let a = l.before.before.before.before.before.before.before.before.before.before.before.before.before.before.before.before.before.before.args in
-    omega (arith, c.loop-test.true, count-within a.t1 a.node a.t3 _ _ _ l.loop.invariant.1)
-
-parent-column-requires :
-    tie.Need-parent-column-requires invariant-loop decreases-loop invariant-loop2 decreases-loop2 invariant-loop3 decreases-loop3 invariant-loop4 decreases-loop4 invariant-loop5 decreases-loop5
-parent-column-requires c κs = search rules
-
-refused-row-requires-3 :
-    tie.Need-refused-row-requires-3 invariant-loop decreases-loop invariant-loop2 decreases-loop2 invariant-loop3 decreases-loop3 invariant-loop4 decreases-loop4 invariant-loop5 decreases-loop5
-refused-row-requires-3 c κs = search rules
-
-array-copy-out-slot :
-    tie.Need-array-copy-out-slot invariant-loop decreases-loop invariant-loop2 decreases-loop2 invariant-loop3 decreases-loop3 invariant-loop4 decreases-loop4 invariant-loop5 decreases-loop5
-array-copy-out-slot c = search rules
-
-array-set-from-slots-3 :
-    tie.Need-array-set-from-slots-3 invariant-loop decreases-loop invariant-loop2 decreases-loop2 invariant-loop3 decreases-loop3 invariant-loop4 decreases-loop4 invariant-loop5 decreases-loop5
-array-set-from-slots-3 c = search rules
-
-count-with-requires-2 :
-    tie.Need-count-with-requires-2 invariant-loop decreases-loop invariant-loop2 decreases-loop2 invariant-loop3 decreases-loop3 invariant-loop4 decreases-loop4 invariant-loop5 decreases-loop5
-count-with-requires-2 c κs = search rules
-
-array-set-from-parents :
-    tie.Need-array-set-from-parents invariant-loop decreases-loop invariant-loop2 decreases-loop2 invariant-loop3 decreases-loop3 invariant-loop4 decreases-loop4 invariant-loop5 decreases-loop5
-array-set-from-parents c = search rules
-
-is-anonymous-requires :
-    tie.Need-is-anonymous-requires invariant-loop decreases-loop invariant-loop2 decreases-loop2 invariant-loop3 decreases-loop3 invariant-loop4 decreases-loop4 invariant-loop5 decreases-loop5
-is-anonymous-requires c κs = search rules
-
-array-copy-out-own-slot :
-    tie.Need-array-copy-out-own-slot invariant-loop decreases-loop invariant-loop2 decreases-loop2 invariant-loop3 decreases-loop3 invariant-loop4 decreases-loop4 invariant-loop5 decreases-loop5
-array-copy-out-own-slot c = c.before.before.before.loop.invariant.1.within
-
-array-copy-out-other-slot :
-    tie.Need-array-copy-out-other-slot invariant-loop decreases-loop invariant-loop2 decreases-loop2 invariant-loop3 decreases-loop3 invariant-loop4 decreases-loop4 invariant-loop5 decreases-loop5
-array-copy-out-other-slot c = let t = c.before.before.before in
-    let v = t.before.loop in
-    let a = t.before.before.before.before.before.before.before.before.before.before.before.before.before.before.before.before.before.before.before.args in
-    let b = v.invariant.1 in
-    let g = row_walked a.t1 a.node a.t3 _ _ _ b _ _ _ _ _ _ v.invariant.2 t.loop-test.false in
-    other-within a.t1 a.node a.t3 _ _ _ b _ _ _ _ _ g _ c.before.before.given-up.ensures _ c.before.or_else.ensures
-
-element-copy-out-was :
-    tie.Need-element-copy-out-was invariant-loop decreases-loop invariant-loop2 decreases-loop2 invariant-loop3 decreases-loop3 invariant-loop4 decreases-loop4 invariant-loop5 decreases-loop5
-element-copy-out-was c = let t = c.before.before.before.before in
-    let v = t.before.loop in
-    let a = t.before.before.before.before.before.before.before.before.before.before.before.before.before.before.before.before.before.before.before.args in
-    let b = v.invariant.1 in
-    let g = row_walked a.t1 a.node a.t3 _ _ _ b _ _ _ _ _ _ v.invariant.2 t.loop-test.false in
-    other-within a.t1 a.node a.t3 _ _ _ b _ _ _ _ _ g _ c.before.before.before.given-up.ensures _ c.before.before.or_else.ensures
-
-column-before-requires :
-    tie.Need-column-before-requires invariant-loop decreases-loop invariant-loop2 decreases-loop2 invariant-loop3 decreases-loop3 invariant-loop4 decreases-loop4 invariant-loop5 decreases-loop5
-column-before-requires c κs = search rules
-
-is-parent-requires :
-    tie.Need-is-parent-requires invariant-loop decreases-loop invariant-loop2 decreases-loop2 invariant-loop3 decreases-loop3 invariant-loop4 decreases-loop4 invariant-loop5 decreases-loop5
-is-parent-requires c κs = search rules
-
-array-set-from-slots-4 :
-    tie.Need-array-set-from-slots-4 invariant-loop decreases-loop invariant-loop2 decreases-loop2 invariant-loop3 decreases-loop3 invariant-loop4 decreases-loop4 invariant-loop5 decreases-loop5
-array-set-from-slots-4 c = c.before.before.before.before.before.before.before.before.loop.invariant.1.within
-
-array-set-from-slots-5 :
-    tie.Need-array-set-from-slots-5 invariant-loop decreases-loop invariant-loop2 decreases-loop2 invariant-loop3 decreases-loop3 invariant-loop4 decreases-loop4 invariant-loop5 decreases-loop5
-array-set-from-slots-5 c = let t = c.before.before.before.before.before.before.before in
-    let v = t.before.loop in
-    let a = t.before.before.before.before.before.before.before.before.before.before.before.before.before.before.before.before.before.before.before.args in
-    let b = v.invariant.1 in
-    let g = row_walked a.t1 a.node a.t3 _ _ _ b _ _ _ _ _ _ v.invariant.2 t.loop-test.false in
-    other-within a.t1 a.node a.t3 _ _ _ b _ _ _ _ _ g _ c.before.before.before.before.before.before.given-up.ensures _ c.before.before.before.before.before.or_else.ensures
-
-array-copy-out-drawn-in :
-    tie.Need-array-copy-out-drawn-in invariant-loop decreases-loop invariant-loop2 decreases-loop2 invariant-loop3 decreases-loop3 invariant-loop4 decreases-loop4 invariant-loop5 decreases-loop5
-array-copy-out-drawn-in c = let t = c.before.before.before.before.before.before.before in
-    let v = t.before.loop in
-    let a = t.before.before.before.before.before.before.before.before.before.before.before.before.before.before.before.before.before.before.before.args in
-    let b = v.invariant.1 in
-    let g = row_walked a.t1 a.node a.t3 _ _ _ b _ _ _ _ _ _ v.invariant.2 t.loop-test.false in
-    other-within a.t1 a.node a.t3 _ _ _ b _ _ _ _ _ g _ c.before.before.before.before.before.before.given-up.ensures _ c.before.before.before.before.before.or_else.ensures
-
-array-set-from-parents-2 :
-    tie.Need-array-set-from-parents-2 invariant-loop decreases-loop invariant-loop2 decreases-loop2 invariant-loop3 decreases-loop3 invariant-loop4 decreases-loop4 invariant-loop5 decreases-loop5
-array-set-from-parents-2 c = let t = c.before.before.before.before.before.before.before.before in
-    let v = t.before.loop in
-    let a = t.before.before.before.before.before.before.before.before.before.before.before.before.before.before.before.before.before.before.before.args in
-    let b = v.invariant.1 in
-    let g = row_walked a.t1 a.node a.t3 _ _ _ b _ _ _ _ _ _ v.invariant.2 t.loop-test.false in
-    other-within a.t1 a.node a.t3 _ _ _ b _ _ _ _ _ g _ c.before.before.before.before.before.before.before.given-up.ensures _ c.before.before.before.before.before.before.or_else.ensures
-
-array-set-from-parents-3 :
-    tie.Need-array-set-from-parents-3 invariant-loop decreases-loop invariant-loop2 decreases-loop2 invariant-loop3 decreases-loop3 invariant-loop4 decreases-loop4 invariant-loop5 decreases-loop5
-array-set-from-parents-3 c = c.before.before.before.before.before.before.before.before.before.loop.invariant.1.within
-
-need-link-line-requires :
-    tie.Need-need-link-line-requires invariant-loop decreases-loop invariant-loop2 decreases-loop2 invariant-loop3 decreases-loop3 invariant-loop4 decreases-loop4 invariant-loop5 decreases-loop5
-need-link-line-requires c κs = search rules
-
-plain-cell-requires :
-    tie.Need-plain-cell-requires invariant-loop decreases-loop invariant-loop2 decreases-loop2 invariant-loop3 decreases-loop3 invariant-loop4 decreases-loop4 invariant-loop5 decreases-loop5
-plain-cell-requires c κs = search rules
-
-plain-cell-requires-2 :
-    tie.Need-plain-cell-requires-2 invariant-loop decreases-loop invariant-loop2 decreases-loop2 invariant-loop3 decreases-loop3 invariant-loop4 decreases-loop4 invariant-loop5 decreases-loop5
-plain-cell-requires-2 c κs = search rules
-
-array-copy-out-shown-slot :
-    tie.Need-array-copy-out-shown-slot invariant-loop decreases-loop invariant-loop2 decreases-loop2 invariant-loop3 decreases-loop3 invariant-loop4 decreases-loop4 invariant-loop5 decreases-loop5
-array-copy-out-shown-slot c = omega (arith, c.loop2-test.true, c.before.loop2.invariant.fits)
-
-array-set-from-cells :
-    tie.Need-array-set-from-cells invariant-loop decreases-loop invariant-loop2 decreases-loop2 invariant-loop3 decreases-loop3 invariant-loop4 decreases-loop4 invariant-loop5 decreases-loop5
-array-set-from-cells c = omega (arith, c.before.before.loop2-test.true, c.before.before.before.loop2.invariant.fits)
-
-reach-end-requires :
-    tie.Need-reach-end-requires invariant-loop decreases-loop invariant-loop2 decreases-loop2 invariant-loop3 decreases-loop3 invariant-loop4 decreases-loop4 invariant-loop5 decreases-loop5
-reach-end-requires c κs = search rules
-
-reach-start-requires :
-    tie.Need-reach-start-requires invariant-loop decreases-loop invariant-loop2 decreases-loop2 invariant-loop3 decreases-loop3 invariant-loop4 decreases-loop4 invariant-loop5 decreases-loop5
-reach-start-requires c κs = search rules
-
-element-copy-out-bare :
-    tie.Need-element-copy-out-bare invariant-loop decreases-loop invariant-loop2 decreases-loop2 invariant-loop3 decreases-loop3 invariant-loop4 decreases-loop4 invariant-loop5 decreases-loop5
-element-copy-out-bare c = omega (arith, c.loop3-test.true, c.before.before.before.reach-end.ensures, c.before.loop3.invariant.fits)
-
-column-before-requires-2 :
-    tie.Need-column-before-requires-2 invariant-loop decreases-loop invariant-loop2 decreases-loop2 invariant-loop3 decreases-loop3 invariant-loop4 decreases-loop4 invariant-loop5 decreases-loop5
-column-before-requires-2 c κs = search rules
-
-array-copy-out-settled :
-    tie.Need-array-copy-out-settled invariant-loop decreases-loop invariant-loop2 decreases-loop2 invariant-loop3 decreases-loop3 invariant-loop4 decreases-loop4 invariant-loop5 decreases-loop5
-array-copy-out-settled c = omega (arith, c.before.before.loop3-test.true, c.before.before.before.before.before.reach-end.ensures, c.before.before.before.loop3.invariant.fits)
-
-array-copy-out-met :
-    tie.Need-array-copy-out-met invariant-loop decreases-loop invariant-loop2 decreases-loop2 invariant-loop3 decreases-loop3 invariant-loop4 decreases-loop4 invariant-loop5 decreases-loop5
-array-copy-out-met c = omega (arith, c.before.before.before.loop3-test.true, c.before.before.before.before.before.before.reach-end.ensures, c.before.before.before.before.loop3.invariant.fits)
-
-array-copy-out-plain :
-    tie.Need-array-copy-out-plain invariant-loop decreases-loop invariant-loop2 decreases-loop2 invariant-loop3 decreases-loop3 invariant-loop4 decreases-loop4 invariant-loop5 decreases-loop5
-array-copy-out-plain c = omega (arith, c.before.before.before.before.loop3-test.true, c.before.before.before.before.before.before.before.reach-end.ensures, c.before.before.before.before.before.loop3.invariant.fits)
-
-array-set-from-cells-2 :
-    tie.Need-array-set-from-cells-2 invariant-loop decreases-loop invariant-loop2 decreases-loop2 invariant-loop3 decreases-loop3 invariant-loop4 decreases-loop4 invariant-loop5 decreases-loop5
-array-set-from-cells-2 c = omega (arith, c.before.before.before.before.before.before.loop3-test.true, c.before.before.before.before.before.before.before.before.before.reach-end.ensures, c.before.before.before.before.before.before.before.loop3.invariant.fits)
-
-separator-line-requires :
-    tie.Need-separator-line-requires invariant-loop decreases-loop invariant-loop2 decreases-loop2 invariant-loop3 decreases-loop3 invariant-loop4 decreases-loop4 invariant-loop5 decreases-loop5
-separator-line-requires c κs = search rules
-
-array-copy-out-settled-slot :
-    tie.Need-array-copy-out-settled-slot invariant-loop decreases-loop invariant-loop2 decreases-loop2 invariant-loop3 decreases-loop3 invariant-loop4 decreases-loop4 invariant-loop5 decreases-loop5
-array-copy-out-settled-slot c = omega (arith, c.loop4-test.true, c.before.loop4.invariant.0.fits)
+use Rattle.row_shape.proofs.next_row_shape.Goals.{else-loop-at-2-test, then-loop-at-2-test+then-not-is_empty}
 
 pub returns-then-are_too_many : goal.returns-then-are_too_many
 returns-then-are_too_many c = 
@@ -247,7 +49,7 @@ returns-then-index-ge-COLUMN_LIMIT c =
     let b = v.invariant.1 in
     let bs = bare a.shaper a.node a.entries _ _ _ b in
     let h = c.loop-i-test.true in
-    row-no-room a.shaper a.node a.entries _ _ _ b _ (going-over bs _ (given a.entries) v.i v.slots v.count v.parents v.parent-column v.need-term-line v.invariant.2 _ (entry_next a.shaper a.node a.entries _ _ _ b v.i _ h) _ c.parent_column-index.ensures c.if-index-ge-COLUMN_LIMIT.true) c.refused_row-then-index-ge-COLUMN_LIMIT.ensures
+    row-no-room a.shaper a.node a.entries _ _ _ b _ (going-over bs _ (given a.entries) v.i v.slots v.count v.parents v.parent_column v.need_term_line v.invariant.2 _ (entry_next a.shaper a.node a.entries _ _ _ b v.i _ h) _ c.parent_column-index.ensures c.if-index-ge-COLUMN_LIMIT.true) c.refused_row-then-index-ge-COLUMN_LIMIT.ensures
 
 pub loop-i-preserved : goal.loop-i-preserved
 loop-i-preserved c = 
@@ -258,8 +60,8 @@ loop-i-preserved c =
     let h = c.loop-i-test.true in (
       omega (arith, h),
       b,
-      going_next bs _ (given a.entries) v.i v.slots v.count v.parents v.parent-column v.need-term-line v.invariant.2 _ (entry_next a.shaper a.node a.entries _ _ _ b v.i _ h) _ c.parent_column-index.ensures (omega (arith, c.if-index-ge-COLUMN_LIMIT.false)) _ c.count_with-count-in-loop-i.ensures _ a.node c.entered.ensures _ c.drawn_by.ensures _ c.is_anonymous-need_term_line.ensures,
-      carrying-next bs _ (given a.entries) v.i v.slots v.count v.parents v.parent-column v.need-term-line v.invariant.2 _ (entry_next a.shaper a.node a.entries _ _ _ b v.i _ h) _ c.parent_column-index.ensures (omega (arith, c.if-index-ge-COLUMN_LIMIT.false)) _ c.count_with-count-in-loop-i.ensures _ a.node c.entered.ensures _ c.drawn_by.ensures _ c.is_anonymous-need_term_line.ensures _ v.invariant.3,
+      going_next bs _ (given a.entries) v.i v.slots v.count v.parents v.parent_column v.need_term_line v.invariant.2 _ (entry_next a.shaper a.node a.entries _ _ _ b v.i _ h) _ c.parent_column-index.ensures (omega (arith, c.if-index-ge-COLUMN_LIMIT.false)) _ c.count_with-count-in-loop-i.ensures _ a.node c.entered.ensures _ c.drawn_by.ensures _ c.is_anonymous-need_term_line.ensures,
+      carrying-next bs _ (given a.entries) v.i v.slots v.count v.parents v.parent_column v.need_term_line v.invariant.2 _ (entry_next a.shaper a.node a.entries _ _ _ b v.i _ h) _ c.parent_column-index.ensures (omega (arith, c.if-index-ge-COLUMN_LIMIT.false)) _ c.count_with-count-in-loop-i.ensures _ a.node c.entered.ensures _ c.drawn_by.ensures _ c.is_anonymous-need_term_line.ensures _ v.invariant.3,
     )
 
 pub loop-p-preserved : goal.loop-p-preserved
@@ -293,7 +95,7 @@ loop-at-2-preserved c =
       omega (arith, w.invariant.0),
       w.invariant.1,
       w.invariant.2,
-      trim-turn w.at _ (omega (arith, c.loop-at-2-test.true)) (omega (arith, w.invariant.0, w.invariant.1, w.invariant.2)) (sym c.is_empty.ensures ∙ not-false _ c.if-not-is_empty.false) ∙ w.invariant.3,
+      trim-turn w.at _ (omega (arith, c.loop-at-2-test.true)) (omega (arith, w.invariant.0, w.invariant.1, w.invariant.2)) (sym c.is_empty.ensures ∙ c.if-not-is_empty.false) ∙ w.invariant.3,
     )
 
 pub returns : goal.returns
@@ -303,20 +105,14 @@ returns c =
     let a = c.args in
     let b = v.invariant.1 in
     let g = row_walked a.shaper a.node a.entries _ _ _ b _ _ _ _ _ _ v.invariant.2 c.loop-i-test.false in
+    -- Empty columns at the end went
+    let left : live w.at c.loop-at.next.slots ≡ trim (live c.loop-at.at c.loop-at.next.slots) =
+        elim c.loop-at-2-test.branch [
+        else-loop-at-2-test x ↦ trim-done w.at _ (omega (arith, x.loop-at-2-test.false)) ∙ w.invariant.3
+        | then-loop-at-2-test+then-not-is_empty x ↦ trim-stop w.at _ (omega (arith, x.loop-at-2-test.true)) (omega (arith, w.invariant.0, w.invariant.1, w.invariant.2)) (sym x.is_empty.ensures ∙ x.if-not-is_empty.true) ∙ w.invariant.3
+        ] in
     row_done a.shaper a.node a.entries _ _ _ b _ _ _ _ _ g _ c.given_up-given_up.ensures _ c.or_else-other.ensures _ refl _ (rw c.nobody-nobody.ensures refl) _
     (c.is_parent.ensures ∙ ap is_parent c.column_before-old.ensures) _ c.new-bounds.ensures _ c.need_link_line-need_link_line.ensures _ c.loop-k.k
     (omega (arith, c.loop-k-test.false, c.reach_end-end.ensures)) c.loop-k.invariant _ _ c.is_head-is_head.ensures c.separator_line-separator_line.ensures _
-    (filling-done _ _ _ c.loop-at.at c.loop-at.next.slots _ w.at _ _ c.loop-at.invariant.0 c.loop-at-test.false refl refl c.loop-at.invariant.1 c.loop-at.invariant.2 refl w.invariant.0 (left c))
+    (filling-done _ _ _ c.loop-at.at c.loop-at.next.slots _ w.at _ _ c.loop-at.invariant.0 c.loop-at-test.false refl refl c.loop-at.invariant.1 c.loop-at.invariant.2 refl w.invariant.0 left)
     v.invariant.3
-  where
-    either : {A B C : Type 0} → A ⊎ B → (A → C) → (B → C) → C
-    either (inl x) f g = f x
-    either (inr x) f g = g x
-
-    -- Empty columns at the end went
-    left : (c : tie.Left-loop5 invariant-loop decreases-loop invariant-loop2 decreases-loop2 invariant-loop3 decreases-loop3 invariant-loop4 decreases-loop4 invariant-loop5 decreases-loop5) → let w = c.loop-at-2 in let l = c.loop-at.next.slots in
-        live w.at l ≡ trim (live c.loop-at.at l)
-    left c = let w = c.loop-at-2 in
-        either c.loop-at-2-test.branch
-        (λ x. trim-done w.at _ (omega (arith, x.left)) ∙ w.invariant.3)
-        (λ x. trim-stop w.at _ (omega (arith, x.0.taken)) (omega (arith, w.invariant.0, w.invariant.1, w.invariant.2)) (sym x.2.ensures ∙ not-true _ x.3.taken) ∙ w.invariant.3)
