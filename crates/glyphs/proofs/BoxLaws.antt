@@ -2,10 +2,10 @@
 use Prim.Native.Nat.{ℕ}
 use mathlib.Core.Path.{◌≡◌, refl, sym, ap, ap₂, subst, ◌∙◌}
 use mathlib.Core.Logic.{⊎_elim}
-use mathlib.Core.List.{List, [], ◌∷◌, ◌++◌, append_assoc}
+use mathlib.Core.List.{List, [], ◌∷◌, ◌++◌}
 use native.Mathlib.Omega.{arith}
 use lib.ListN.{length, get_or, take, get_or-append}
-use lib.Seq.{take_all, take_at}
+use lib.Seq.{take_at}
 use types.Run.{OneOf}
 use denote.Enum.Declared.{tag_of}
 use Rattle.render.specs.declared.types.DashStyle.{DashStyle}
@@ -59,20 +59,19 @@ box-plain Curved d i r h e = record { space = e.space; solid = e.solid; dashed =
 box-plain Dec d i r h e = record { space = e.space; solid = e.solid; dashed = e.dashed; mark = e.mark; end = e.end }
 
 -- glyphs copied to the front of a table, and entries behind them, make a box drawing renderer's table
-pub box-made : (set : ℕ → List ℕ) (mark : ℕ) (glyphs entries front part rest last post : List ℕ) → length glyphs ≡ 144 → length entries ≡ 512
+pub box-made : (set : ℕ → List ℕ) (mark : ℕ) (glyphs entries front part rest post : List ℕ) → length glyphs ≡ 144 → length entries ≡ 512
     → ((n : ℕ) → glyph_at glyphs n ≡ get_or (box_table set mark) n [])
     → Names (λ (k : ℕ). get_or entries k 0)
-    → front ≡ take (length glyphs) glyphs ++ rest
-    → part ≡ take (length entries) entries ++ last
-    → BoxTables (take 144 front ++ (part ++ post)) set mark
-box-made set mark glyphs entries front part rest last post g e holds names f p =
-    let ahead : take 144 front ≡ glyphs = rw (f, take_all (length glyphs) glyphs (omega arith)) (take_at glyphs rest 144 g) in
-    let behind : part ++ post ≡ entries ++ (last ++ post) = rw (p, take_all (length entries) entries (omega arith)) (append_assoc entries last post) in
-    let whole : take 144 front ++ (part ++ post) ≡ glyphs ++ (entries ++ (last ++ post)) = ap₂ ◌++◌ ahead behind in
-    let named : Names (λ (k : ℕ). get_or (entries ++ (last ++ post)) k 0) = λ k h. get_or-append entries (last ++ post) 0 k (omega (arith, e, h)) ∙ names k h in
+    → front ≡ glyphs
+    → part ≡ entries
+    → BoxTables (take 144 (front ++ rest) ++ (part ++ post)) set mark
+box-made set mark glyphs entries front part rest post g e holds names f p =
+    let ahead : take 144 (front ++ rest) ≡ glyphs = rw f (take_at glyphs rest 144 g) in
+    let whole : take 144 (front ++ rest) ++ (part ++ post) ≡ glyphs ++ (entries ++ post) = ap₂ ◌++◌ ahead (ap (λ (l : List ℕ). l ++ post) p) in
+    let named : Names (λ (k : ℕ). get_or (entries ++ post) k 0) = λ k h. get_or-append entries post 0 k (omega (arith, e, h)) ∙ names k h in
     rw whole (record {
-      holds = λ n h. glyph-ahead glyphs (entries ++ (last ++ post)) n (omega (arith, g, h)) ∙ holds n;
-      names = entry-behind glyphs (entries ++ (last ++ post)) g named;
+      holds = λ n h. glyph-ahead glyphs (entries ++ post) n (omega (arith, g, h)) ∙ holds n;
+      names = entry-behind glyphs (entries ++ post) g named;
     })
 
 -- the table that is made for a box drawing renderer is the renderer's own

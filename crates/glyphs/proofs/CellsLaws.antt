@@ -15,7 +15,7 @@ use Rattle.message.specs.Message.{trim_end}
 use Rattle.message.proofs.MessageLaws.{trim-front, trim-behind, trim-length}
 use Rattle.slices.specs.Joins.{joins, over, Writes}
 use Rattle.slices.proofs.JoinLaws.{joins-append, so-short}
-use Rattle.slices.proofs.OverLaws.{writes-all, writes-none, part_length, copied-over}
+use Rattle.slices.proofs.OverLaws.{writes-all, writes-none, part_length}
 use Rattle.glyphs.specs.Inner.{WritesWithin}
 use Rattle.glyphs.specs.Tables.{glyph_at, cells_text, first_cells, WritesCells}
 use Rattle.glyphs.proofs.TableLaws.{glyph-short, no-glyph, glyph-there}
@@ -86,6 +86,11 @@ module _ (t : List ℕ) (n most count : ℕ) (e : count ≡ min (length (glyph_a
       take-both (suc a) (suc b) [] = ap (λ (i : ℕ). take i []) (sym (suc-min-suc a b))
       take-both (suc a) (suc b) (x ∷ l) = ap (λ (r : List ℕ). x ∷ r) (take-both a b l) ∙ ap (λ (i : ℕ). take i (x ∷ l)) (sym (suc-min-suc a b))
 
+  -- copied out of the table
+  pub glyph-copied : 0 < count → (o p : List ℕ) → p ≡ take (n * 9 + 1 + count - (n * 9 + 1)) (drop (n * 9 + 1) t)
+      → (count ≡ length (take most (glyph_at t n))) × (p ++ drop count o ≡ over (take most (glyph_at t n)) o)
+  glyph-copied h o p f = (sym taken-length, ap₂ (λ (l : List ℕ) (k : ℕ). l ++ drop k o) (f ∙ glyph-part h) (sym taken-length))
+
 -- all bytes of a glyph that has some
 pub glyph-whole : (t : List ℕ) (n : ℕ) → 0 < length (glyph_at t n) → (n * 9 + 9 ≤ length t)
     × (take (n * 9 + 1 + length (glyph_at t n) - (n * 9 + 1)) (drop (n * 9 + 1) t) ≡ glyph_at t n)
@@ -101,10 +106,6 @@ pub glyph-trimmed : (t : List ℕ) (n count r : ℕ) → count ≡ length (glyph
 glyph-trimmed t n count r e h f =
     let k : 0 < length (glyph_at t n) = omega arith in
     f ∙ ap (λ (i : ℕ). length (trim_end (take (n * 9 + 1 + i - (n * 9 + 1)) (drop (n * 9 + 1) t)))) e ∙ ap (λ (l : List ℕ). length (trim_end l)) (glyph-whole t n k).1
-
--- copied out of the table
-pub glyph-copied : (bs src o p : List ℕ) (r : ℕ) → src ≡ bs → r ≡ length src → p ≡ take (length src) src ++ drop (length src) o → (r ≡ length bs) × (p ≡ over bs o)
-glyph-copied bs src o p r e f g = (f ∙ ap length e, g ∙ copied-over src o ∙ ap (λ (l : List ℕ). over l o) e)
 
 -- eight bytes stored one by one
 pub eight-stored : (o : List ℕ) (a b c d e f g h : ℕ) → 8 ≤ length o

@@ -7,7 +7,7 @@ use native.Mathlib.Nat.{add-zero}
 use native.Mathlib.Omega.{arith}
 use lib.Dec.{eqb, ltb, leb, lit≤}
 use borrow.Author.Tests.{ne_eqb, ltb-true, ltb-false, leb-true, le-leb, lt-leb}
-use lib.ListN.{length, take, drop, set, length-append, length-take, length-map}
+use lib.ListN.{length, take, drop, set, length-append, length-take}
 use lib.Seq.{take_all, take-append_seam}
 use Rattle.slices.specs.Characters.{newline}
 use Rattle.slices.specs.Joins.{over, Writes}

@@ -9,7 +9,6 @@ use Rattle.glyphs.specs.Cells.{glyphs_of}
 use Rattle.glyphs.specs.Tables.{placed, glyph_at, box_table}
 use Rattle.glyphs.proofs.CountedLaws.{counted}
 use Rattle.glyphs.proofs.TableLaws.{holds}
-use borrow.Author.Rules.{rules}
 use Rattle.glyphs.proofs.box_drawing.glyphs.Goals as goal
 
 holds_of : (p q : Renderer) (t : List ℕ) (m : ℕ) → p ≡ q → length t ≡ 144 → counted (placed t) 0 16 ≡ box_table (glyphs_of q) m → (n : ℕ)
@@ -17,16 +16,21 @@ holds_of : (p q : Renderer) (t : List ℕ) (m : ℕ) → p ≡ q → length t �
 holds_of p q t m e h f n = subst (λ (x : Renderer). glyph_at t n ≡ get_or (box_table (glyphs_of x) m) n []) (sym e) (holds t 16 (box_table (glyphs_of q) m) h f n)
 
 pub returns-in-Ascii : goal.returns-in-Ascii
+unfolding glyphs_of
 returns-in-Ascii c m = holds_of _ Ascii _ m c.in-Ascii.is refl refl
 
 pub returns-in-AsciiLarge : goal.returns-in-AsciiLarge
+unfolding glyphs_of
 returns-in-AsciiLarge c m = holds_of _ AsciiLarge _ m c.in-AsciiLarge.is refl refl
 
 pub returns-in-Square : goal.returns-in-Square
+unfolding glyphs_of
 returns-in-Square c m = holds_of _ Square _ m c.in-Square.is refl refl
 
 pub returns-in-Curved : goal.returns-in-Curved
+unfolding glyphs_of
 returns-in-Curved c m = holds_of _ Curved _ m c.in-Curved.is refl refl
 
 pub returns-in-Dec : goal.returns-in-Dec
+unfolding glyphs_of
 returns-in-Dec c m = holds_of _ Dec _ m c.in-Dec.is refl refl

@@ -5,4 +5,5 @@ use Rattle.glyphs.proofs.LinkLaws.{entry-names}
 use Rattle.glyphs.proofs.box_drawing.link_glyphs.Goals as goal
 
 pub returns : goal.returns
+unfolding box_link
 returns c = entry-names _ refl

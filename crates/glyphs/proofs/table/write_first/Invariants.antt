@@ -1,14 +1,6 @@
 -- Writes the first bytes of the cells of a line that has so many.
-use mathlib.Core.Path.{refl}
-use Prim.Native.Nat.{◌-◌, ◌<◌, min}
-use native.Mathlib.Omega.{arith}
-use lib.ListN.{length, get_or, length-take}
-use mir.Syntax.{w64}
-use borrow.Author.Rules.{rules, Fits-under}
-use Rattle.column.specs.Columns.{column_limit}
-use Rattle.slices.proofs.OverLaws.{part_room}
-use Rattle.glyphs.specs.Tables.{glyph_at, first_cells}
-use Rattle.glyphs.proofs.CellsLaws.{First, first-start, first-at, first_next, first-end}
+use Prim.Native.Nat.{◌-◌}
+use Rattle.glyphs.proofs.CellsLaws.{First}
 use Rattle.glyphs.proofs.table.write_first.Given as goal
 
 abbrev pub invariant-loop-i : goal.invariant-loop-i

@@ -2,15 +2,19 @@
 use mathlib.Core.Path.{◌∙◌, ap}
 use Prim.Native.Nat.{ℕ, min}
 use native.Mathlib.Omega.{arith}
-use mir.Syntax.{w64}
-use borrow.Author.Rules.{rules, Fits-under}
-use Rattle.glyphs.proofs.CellsLaws.{glyph-none, glyph-some, glyph-part, glyph-copied}
+use Rattle.glyphs.proofs.CellsLaws.{glyph-some, glyph-copied}
 use Rattle.glyphs.proofs.TableLaws.{glyph-short}
 use Rattle.glyphs.proofs.table.write_glyph.Goals as goal
 
-pub returns : goal.returns
-returns c = 
+pub slice_bounds-copy_from_slice-end-3 : goal.slice_bounds-copy_from_slice-end-3
+slice_bounds-copy_from_slice-end-3 c =
     let a = c.args in
     let e = c.lesser-count.ensures ∙ ap (λ (k : ℕ). min k a.most) c.glyph_length.ensures in
-    let w = c.copy in
-    glyph-copied _ _ a.out.now _ _ (glyph-part a.table.now a.n a.most _ e (omega (arith, c.if-count-eq0.false))) w.ensures.0 w.ensures.1
+    let h = glyph-some a.table.now a.n a.most _ e (omega (arith, c.if-count-eq0.false)) in
+    omega (arith, e, h, glyph-short a.table.now a.n)
+
+pub returns : goal.returns
+returns c =
+    let a = c.args in
+    let e = c.lesser-count.ensures ∙ ap (λ (k : ℕ). min k a.most) c.glyph_length.ensures in
+    glyph-copied a.table.now a.n a.most _ e (omega (arith, c.if-count-eq0.false)) a.out.now _ c.copy_from_slice.ensures.after
