@@ -1,3 +1,1 @@
-pub mod LocalLaws
 pub mod FrontLaws
-pub mod ReadLaws

@@ -1,13 +1,14 @@
 -- What copying one entry after the other comes to: a list of at most eight is copied whole, of a longer one there are too many.
 use mathlib.Core.Path.{◌≡◌, refl, sym, ◌∙◌, ap}
 use Prim.Native.Nat.{ℕ, zero, suc, ◌+◌, ◌-◌, ◌<◌, ◌≤◌}
-use native.Mathlib.Nat.{zero-add, suc-add}
+use native.Mathlib.Nat.{zero-add, suc-add, not-suc-le-zero, le_of_suc-le-suc}
+use native.Mathlib.Numerals.{add-one}
 use native.Mathlib.Omega.{arith}
 use mathlib.Core.Bool.{Bool, true, false, cond}
 use mathlib.Core.List.{List, [], ◌∷◌, ◌++◌, append_assoc, append-nil}
 use borrow.Author.Tests.{lt-leb, le-leb, ltb-true, ltb-false, le-ltb}
 use lib.Dec.{leb}
-use lib.ListN.{length, set, replicate, length-append, length-map}
+use lib.ListN.{length, get_or, take, set, replicate, length-append, length-map}
 use lib.Seq.{take_at, set_at}
 use Rattle.render.specs.declared.render.Ancestor.TheVariants.{Anonymous}
 use Rattle.render.specs.declared.render.Entry.{Entry}
@@ -90,3 +91,23 @@ copies l r e = go (is_too_many (ancestors l)) refl
     go false q =
         let h : length l ≤ entry_limit = omega (arith, ltb-false entry_limit (length (ancestors l)) q, same-long) in
         rw (e ∙ few l h, le-ltb entry_limit (length l) h) (ap ancestors (take_at l (replicate (entry_limit - length l) none) (length l) refl))
+
+-- ---- the copy's loop
+-- the first i + 1 entries are the first i and one more
+pub one_more : (c : Entries) (ys : List Entry) (i : ℕ) (d : Entry) → i < length ys → copied c (take (i + 1) ys) ≡ pushed (copied c (take i ys)) (get_or ys i d)
+one_more c ys i d l = ap (λ (k : ℕ). copied c (take k ys)) (add-one i) ∙ go c ys i l
+  where
+    go : (c : Entries) (ys : List Entry) (i : ℕ) → i < length ys → copied c (take (suc i) ys) ≡ pushed (copied c (take i ys)) (get_or ys i d)
+    go c [] i l = absurd (not-suc-le-zero l)
+    go c (y ∷ ys) zero l = refl
+    go c (y ∷ ys) (suc i) l = go (pushed c y) ys i (le_of_suc-le-suc l)
+
+take_all : (ys : List Entry) → take (length ys) ys ≡ ys
+take_all [] = refl
+take_all (y ∷ ys) = ap (λ (zs : List Entry). y ∷ zs) (take_all ys)
+
+-- all of them are copied
+pub copied-all : (ys : List Entry) (i : ℕ) (r : Entries) → r ≡ copied no_entries (take i ys) → i ≤ length ys → length ys ≤ i → Copies ys r
+copied-all ys i r e h k =
+    let n : i ≡ length ys = omega arith in
+    copies ys r (e ∙ ap (λ (j : ℕ). copied no_entries (take j ys)) n ∙ ap (copied no_entries) (take_all ys))
