@@ -2,7 +2,6 @@
 use mathlib.Core.Path.{refl}
 use Rattle.glyphs.specs.Tables.{ascii_table}
 use Rattle.glyphs.proofs.TableLaws.{holds}
-use borrow.Author.Rules.{rules}
 use Rattle.glyphs.proofs.ascii.ascii_table.Goals as goal
 
 pub returns : goal.returns

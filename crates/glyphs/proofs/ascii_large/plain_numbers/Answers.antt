@@ -1,21 +1,19 @@
 -- The numbers of a cell that is given no link.
-use mathlib.Core.Path.{refl}
-use native.Mathlib.Omega.{arith}
 use borrow.Author.Tests.{lt-ltb, le-ltb}
-use Rattle.glyphs.specs.Ascii.{ancestor}
-use Rattle.glyphs.specs.Tables.{centers, number_of}
-use Rattle.glyphs.proofs.TableLaws.{place_short, dashed-apart, dashed-first}
-use borrow.Author.Rules.{rules}
+use Rattle.glyphs.specs.Tables.{number_of}
+use Rattle.glyphs.proofs.TableLaws.{dashed-apart, dashed-first}
 use Rattle.glyphs.proofs.ascii_large.plain_numbers.Goals as goal
 
 pub returns-then-index-gt0 : goal.returns-then-index-gt0
-returns-then-index-gt0 c = 
-    let d = dashed-apart c.args.dash-style c.dashed_number-dashed.ensures in
+unfolding number_of
+returns-then-index-gt0 c =
+    let d = dashed-apart c.args.dash_style c.dashed_number-dashed.ensures in
     let e = lt-ltb 0 c.args.index c.if-index-gt0.true in
     record { space = rw e; solid = rw e; dashed = rw e d; mark = rw e; end = rw e }
 
 pub returns-else-index-gt0 : goal.returns-else-index-gt0
-returns-else-index-gt0 c = 
-    let d = dashed-first c.args.dash-style c.dashed_number-dashed.ensures in
+unfolding number_of
+returns-else-index-gt0 c =
+    let d = dashed-first c.args.dash_style c.dashed_number-dashed.ensures in
     let e = le-ltb 0 c.args.index c.if-index-gt0.false in
     record { space = rw e; solid = rw e; dashed = rw e d; mark = rw e; end = rw e }

@@ -1,10 +1,7 @@
 -- Chooses the glyphs of a line, a number for each cell.
 use Prim.Native.Nat.{◌-◌}
-use mathlib.Core.Path.{refl, sym, ◌∙◌}
-use native.Mathlib.Omega.{arith}
 use lib.ListN.{length}
-use borrow.Author.Rules.{rules}
-use Rattle.glyphs.proofs.ChoiceLaws.{Chosen, choose-link, choose-plain, choose-all, cells-long}
+use Rattle.glyphs.proofs.ChoiceLaws.{Chosen}
 use Rattle.glyphs.proofs.choice.choose_cells.Given as goal
 
 abbrev pub invariant-loop-i : goal.invariant-loop-i

@@ -1,14 +1,10 @@
 -- Whether the ancestry line contains an indirect ancestor edge.
-use borrow.Author.Rules.{rules}
 use Prim.Native.Nat.{◌≤◌, ◌-◌}
 use mathlib.Core.Path.{◌≡◌}
-use native.Mathlib.Omega.{arith}
 use lib.ListN.{length, take, drop}
 use Rattle.column.specs.Columns.{column_limit}
-use Rattle.render.specs.Lines.{blank_cell}
 use Rattle.render.specs.Entries.{any_of}
 use Rattle.glyphs.specs.Row.{is_indirect}
-use Rattle.glyphs.proofs.PlaceLaws.{any-hit, any_next, any_none}
 use Rattle.glyphs.proofs.row.has_indirect_ancestor.Given as goal
 
 abbrev pub invariant-loop-i : goal.invariant-loop-i
