@@ -29,11 +29,12 @@ returns-then-given-ne-ACCEPTED c =
     row-refused a.shaper a.state a.renderer a.node a.entries a.mark a.message.now a.out.now good c.if-message-gt-MESSAGE_LIMIT.false writable c.next_row_shape-given.result c.next_row_shape-given.ensures _ c.if-given-ne-ACCEPTED.true c.refused-then-given-ne-ACCEPTED.ensures
 
 pub write_row_text-written-requires : goal.write_row_text-written-requires
-write_row_text-written-requires c = 
-    let a = c.args in (
-      (accepted-width a.shaper a.node a.entries c.next_row_shape-given.result c.next_row_shape-given.ensures c.if-given-ne-ACCEPTED.false, c.if-message-gt-MESSAGE_LIMIT.false, omega (arith, c.min_row_height-height.ensures)),
-      (sym c.is_mark.ensures ∙ c.if-not-is_mark.false, sym c.are_writable.ensures ∙ c.if-not-are_writable.false),
-    )
+write_row_text-written-requires c =
+    let a = c.args in
+    record {
+      width_le_column_limit = (accepted-width a.shaper a.node a.entries c.next_row_shape-given.result c.next_row_shape-given.ensures c.if-given-ne-ACCEPTED.false, c.if-message-gt-MESSAGE_LIMIT.false, omega (arith, c.min_row_height-height.ensures));
+      mark_value = (sym c.is_mark.ensures ∙ c.if-not-is_mark.false, sym c.are_writable.ensures ∙ c.if-not-are_writable.false);
+    }
 
 pub returns-then-written-ne-ACCEPTED : goal.returns-then-written-ne-ACCEPTED
 returns-then-written-ne-ACCEPTED c = 
