@@ -1,14 +1,16 @@
 -- The text state after a row whose foot line waits.
-use mathlib.Core.Path.{refl}
+use mathlib.Core.Path.{◌≡◌, refl}
+use lib.ListN.{length}
+use borrow.Author.Rules.{rules}
 use Rattle.glyphs.proofs.CellsLaws.{cells-few}
 use Rattle.glyphs.proofs.ChoiceLaws.{chosen-all}
 use Rattle.output.proofs.PutLaws.{queue_long}
 use Rattle.text.proofs.RowTextLaws.{foot-queued}
-use borrow.Author.Rules.{rules}
 use Rattle.text.proofs.prefix_lines_to_text.queue_foot_line.Goals as goal
 
 pub returns : goal.returns
-returns c = 
+returns c =
     let a = c.args in
     let d = c.choose_cells-cells in
-    foot-queued a.table.now a.drawing a.state.queued_pad_line _ _ _ _ (queue_long a.state.queued_pad_line _ c.well_formed.1.1.1.0.1.1.0.1.0.1) (cells-few a.table.now d.new.0 d.result) (chosen-all d.ensures refl) c.write_cells-queued_length.ensures
+    let long : length a.state.queued_pad_line ≡ 512 = search rules in
+    foot-queued a.table.now a.drawing a.state.queued_pad_line _ _ _ _ (queue_long a.state.queued_pad_line long) (cells-few a.table.now d.new.numbers d.result) (chosen-all d.ensures refl) c.write_cells-queued_length.ensures

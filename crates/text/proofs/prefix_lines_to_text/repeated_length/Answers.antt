@@ -1,10 +1,9 @@
 -- The length of a prefix line written so many times, each time with the next message line.
-use mathlib.Core.Path.{◌≡◌, refl}
-use Prim.Native.Nat.{◌≤◌, ◌-◌}
+use mathlib.Core.Path.{refl}
+use Prim.Native.Nat.{◌≤◌}
 use native.Mathlib.Omega.{arith}
 use lib.ListN.{length}
-use Rattle.text.proofs.RepeatLaws.{Counting, counting-none, counting-next, counting-short, line-counted, part-within, part-short}
-use borrow.Author.Rules.{rules}
+use Rattle.text.proofs.RepeatLaws.{counting-next, counting-short, line-counted, part-within, part-short}
 use Rattle.text.proofs.prefix_lines_to_text.repeated_length.Goals.{After-line_end-end}
 use Rattle.text.proofs.prefix_lines_to_text.repeated_length.Goals as goal
 
@@ -17,7 +16,7 @@ pub slice_bounds-text_line_length-end : goal.slice_bounds-text_line_length-end
 slice_bounds-text_line_length-end c = (within c).1
 
 pub overflow_add-length : goal.overflow_add-length
-overflow_add-length c = 
+overflow_add-length c =
     let l = c.loop-i in
     let a = c.args in
     omega (
@@ -30,7 +29,7 @@ overflow_add-length c =
     )
 
 pub loop-i-preserved : goal.loop-i-preserved
-loop-i-preserved c = 
+loop-i-preserved c =
     let l = c.loop-i in
     let a = c.args in
     (omega arith, counting-next a.lengths a.message.now a.start l.i _ l.invariant.1 c.text_line_length-length.result c.line_end-end.result _ c.line_end-end.ensures c.text_line_length-length.ensures refl c.next_start-next.ensures)

@@ -1,10 +1,6 @@
 -- The length of a prefix line written so many times, each time with the next message line.
-use mathlib.Core.Path.{◌≡◌, refl}
 use Prim.Native.Nat.{◌≤◌, ◌-◌}
-use native.Mathlib.Omega.{arith}
-use lib.ListN.{length}
-use Rattle.text.proofs.RepeatLaws.{Counting, counting-none, counting-next, counting-short, line-counted, part-within, part-short}
-use borrow.Author.Rules.{rules}
+use Rattle.text.proofs.RepeatLaws.{Counting}
 use Rattle.text.proofs.prefix_lines_to_text.repeated_length.Given as goal
 
 abbrev pub invariant-loop-i : goal.invariant-loop-i
