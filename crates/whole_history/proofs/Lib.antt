@@ -6,5 +6,4 @@ pub mod PutTurn
 pub mod ShapeTurn
 pub mod PreviewTurn
 pub mod LinesTurn
-pub mod FrontLaws
 pub mod HeldLaws

@@ -8,7 +8,7 @@ use borrow.Author.Rules.{rules}
 use Rattle.steps.proofs.write_number.Goals as goal
 
 pub returns : goal.returns
-returns c = 
+returns c =
     let words = c.args.words.now in
     let digits = decimal_in most_digits c.args.n in
     let b = c.write_bytes-at in

@@ -6,12 +6,12 @@ use borrow.Author.Rules.{rules}
 use Rattle.steps.proofs.write_refused.Goals as goal
 
 pub returns-then-out-lt-LINE_ROOM : goal.returns-then-out-lt-LINE_ROOM
-returns-then-out-lt-LINE_ROOM c = 
+returns-then-out-lt-LINE_ROOM c =
     let a = c.args in
     let e = no_line a.out.now a.refusal a.number c.if-out-lt-LINE_ROOM.true in (rw e refl, rw e refl)
 
 pub returns : goal.returns
-returns c = 
+returns c =
     let a = c.args in
     let f = c.write_number-at in
     let w = c.write_number in

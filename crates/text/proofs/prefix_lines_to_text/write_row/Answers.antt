@@ -7,7 +7,7 @@ use Rattle.glyphs.specs.Cells.{all_lines}
 use Rattle.glyphs.specs.Tables.{numbers_in, cells_text}
 use Rattle.glyphs.proofs.ChoiceLaws.{chosen-all}
 use Rattle.text.specs.Inner.{line_times}
-use Rattle.text.proofs.RepeatLaws.{none_more, next_fits, next-written}
+use Rattle.text.proofs.RepeatLaws.{plan-short, none_more, next_fits, next-written}
 use Rattle.text.proofs.prefix_lines_to_text.write_row.Goals as goal
 
 pub loop-k-preserved-then-times-eq0 : goal.loop-k-preserved-then-times-eq0
@@ -19,6 +19,13 @@ loop-k-preserved-then-times-eq0 c =
       rw (none_more (λ (x : Line). cells_text a.table.now (numbers_in a.table.now a.drawing x)) (line_times a.plan a.drawing.renderer a.drawing.row) all_lines l.k PostAncestry (omega arith)
           c.line_at-line.result c.times-times.result c.line_at-line.ensures c.times-times.ensures c.if-times-eq0.true) l.invariant.2,
     )
+
+pub write_repeated-put-requires-clause-message_len_bound : goal.write_repeated-put-requires-clause-message_len_bound
+write_repeated-put-requires-clause-message_len_bound c =
+    let a = c.args in
+    let t = c.times-times in
+    let r = c.requires.message_len_bound in
+    (r.0, c.loop-k.invariant.2.rows.within, omega arith, rw t.ensures (plan-short a.plan a.drawing.renderer a.drawing.row r.1 c.line_at-line.result), c.prefix_measure-whole.ensures.1)
 
 pub write_repeated-put-requires-clause-message_in_bounds : goal.write_repeated-put-requires-clause-message_in_bounds
 write_repeated-put-requires-clause-message_in_bounds c =
