@@ -5,7 +5,7 @@ mod crate_files;
 
 use std::env;
 
-/// The crate's files, and the library that `rt staticlib` wrote to the folder that `WHOLE_HISTORY` names.
+/// The crate's files, and the library that bench/run put into the folder that `WHOLE_HISTORY` names.
 fn main() {
     crate_files::main();
     println!("cargo:rerun-if-env-changed=WHOLE_HISTORY");

@@ -87,10 +87,10 @@ def start(command, **options):
     return subprocess.Popen(command, preexec_fn=default_signals, **options)
 
 
-def ended(run, given=None):
+def ended(run, given=None, limit=LIMIT):
     """What a started command writes until it ends. One that takes too long is told to end, with all that it has started, and is then killed."""
     try:
-        return run.communicate(given, timeout=LIMIT)
+        return run.communicate(given, timeout=limit)
     except subprocess.TimeoutExpired:
         run.terminate()
     try:
@@ -113,10 +113,10 @@ class Checks:
 
     def run(self, command, status=0, out=b"", said=(), **options):
         """Runs a command and compares its exit status, its output and what it says: lines, each with its message's name."""
-        given = options.pop("input", None)
+        given, limit = options.pop("input", None), options.pop("limit", LIMIT)
         options = {"stdin": subprocess.DEVNULL if given is None else subprocess.PIPE, **options}
         with start(command, **options) as run:
-            written, told = ended(run, given)
+            written, told = ended(run, given, limit)
         self.compare(command, (run.returncode, written or b"", told), status, out, said)
 
     def compare(self, command, found, status, out, said):

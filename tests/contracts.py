@@ -8,11 +8,12 @@ import sys
 def heads(text):
     """The name of each public function of a source text with its head, clauses included, up to the body's brace."""
     text = re.sub(r"//[^\n]*", "", text)
-    for found in re.finditer(r'\bpub\s+(?:extern\s+"C"\s+)?fn\s+(\w+)', text):
+    for found in re.finditer(r'\bpub\s+(?:const\s+|unsafe\s+)*(?:extern\s+"C"\s+)?fn\s+(\w+)', text):
         at, depth = found.end(), 0
         while at < len(text):
             char = text[at]
-            clause = re.search(r"\b(requires|ensures)\s*\w*\s*$", text[found.end():at])
+            # a clause, which may be starred and may have a name
+            clause = re.search(r"\b(requires|ensures)\b\*?\s*\w*\s*$", text[found.end():at])
             if char == "{" and depth == 0 and not clause:
                 break
             if char == ";" and depth == 0:

@@ -1,6 +1,7 @@
 #!/usr/bin/env python3
 """`draw`: the examples and the edges as the Rust draws them, each refusal explained, and each message with the whole of what is said. Takes
-target/bin/page and target/bin/listing, as new as their sources; builds are tried in a small tree with a stand-in for `rt`."""
+the built programs page and listing, as new as their sources; builds are tried in a small tree with a stand-in for `rt`, and in one with the
+toolchain."""
 import contextlib
 import glob
 import os
@@ -17,7 +18,7 @@ from checks import Checks, breaking_source, ended, start, wait_until
 from common import ROOT, read
 
 import cases
-from building import MINUTES, is_outdated, needed, path_of
+from building import MINUTES, is_outdated, path_of
 from messages import DRAW, RECORDS, SHARED
 from records import PARENT, pieces, read_table, record, table_line
 from refusals import WRONG
@@ -42,13 +43,25 @@ REFUSED = [
 LIKE_REFUSED = ("a message like a refusal", "a mark and a message like a refusal", "a last line like a refusal")
 
 # a small tree: what its crates are made of, the sources of the page program among them, and what rt prints of it
-CRATES = "leaf: bytes\nmiddle: leaf # and no more\nother: leaf\nlisting: other io libc\npage: middle io libc\n"
-PAGE_SOURCES = ("crates.txt", "crates/leaf/src/lib.rt", "crates/leaf/specs/Leaf.antt", "crates/middle/proofs/a/Proof.antt", "crates/page/src/main.rt")
-OTHER_SOURCES = ("crates/other/src/lib.rt", "crates/listing/src/main.rt", "crates/leaf/must-fail/a.edit")
-LEAF = "fn leaf::one: proved\nlogic=proved functions=1\nrt: leaf proved (2 s)\n"
-PROVED = LEAF + "rt: middle proved (unchanged since it was last proved)\nfn page::main: proved\nrt: page proved (15 s)\n"
-RAN = PROVED + "rt: page ran, and wrote what its file 'stdout' has (0 s)\nrt: ok, 3 crates proved\n"
-RUN_FAILED = "rt: page proved, and its run FAILED (0 s)\nrt: FAILED: page\n"
+CRATES = "# the crates\n\npage: middle hex\nleaf: hex\nmiddle: leaf # and no more\nother: leaf\nother_c staticlib: other\nlisting: other hex\n"
+PAGE_SOURCES = ("crates.txt", "crates/leaf/src/lib.rt", "crates/leaf/specs/Leaf.antt", "crates/middle/proofs/a/Answers.antt", "crates/page/src/main.rt")
+OTHER_SOURCES = ("crates/other/src/lib.rt", "crates/listing/src/main.rt", "crates/leaf/must-fail/a.edit", "crates/leaf/out/rlib/stamp")
+LEAF = "only=0 proved=0\nfn leaf::one: proved\nlibrary hex: modules loaded=7 checked=0\ncrate leaf: modules loaded=5 checked=4\nlogic=proved functions=1 sum=0\n"
+NOT_PROVED = "fn middle::two: not proved\ncrate middle: modules loaded=5 checked=4\nlogic=not-proved\n"
+PROVED = LEAF + "crate middle: modules loaded=5 checked=4\nlogic=proved functions=0 sum=0\n"
+PROVED += "fn page::main: proved\ncrate page: modules loaded=5 checked=4\naxioms os: none reached of the 2 declared\nlogic=proved functions=1 axioms=3\n"
+RUNNING = "rt: running out/page; to give it other input, run that file yourself\n"
+RAN = PROVED + RUNNING
+RUN_FAILED = "rt: nothing has changed since the last proved build, by out/page.stamp, so nothing is checked now\n" + RUNNING
+
+# crates that the toolchain itself builds a page program of, which draws one record, and how long that may take, in seconds
+REAL = {
+    "crates.txt": "page: middle\nmiddle: leaf\nleaf:\n",
+    "crates/leaf/src/lib.rt": "// A library.\n#![tactic(auto)]\n",
+    "crates/middle/src/lib.rt": "// Another library.\n#![tactic(auto)]\n",
+    "crates/page/src/main.rt": "// Draws a mark.\n#![tactic(auto)]\n\nuse std::io;\n\nfn main(rt: HostRuntime) -> io::Result<()> {\n    println!(rt; \"o\")\n}\n",
+}
+REAL_LIMIT = 600
 
 # a date in the future, in seconds
 FUTURE = 1 << 32
@@ -84,7 +97,7 @@ class Tree:
 
     def __init__(self, folder):
         self.root = os.path.realpath(folder)
-        self.program = self.path("target/bin/page")
+        self.program = self.path("crates/page/out/page")
         shutil.copy(os.path.join(ROOT, "draw"), self.root)
         shutil.copytree(os.path.join(ROOT, "tools"), self.path("tools"))
         shutil.copytree(EXAMPLES, self.path("examples"))
@@ -107,10 +120,10 @@ class Tree:
         os.chmod(self.path(name), mode)
 
     def stand_in(self, printed, status=0, program=path_of("page"), then=""):
-        """A stand-in for rt: notes its call, prints, copies a program to its place, and ends."""
+        """A stand-in for rt: notes its call and in which folder it comes, prints, copies a program to its place, and ends."""
         self.write("printed", printed)
-        copy = f"mkdir -p target/bin && cp {program} target/bin/page\n" if program else ""
-        self.write("bin/rt", f'#!/bin/sh\necho "$@" >>calls\ncat printed\n{copy}{then}\nexit {status}\n', 0o755)
+        copy = f"mkdir -p {os.path.dirname(self.program)} && cp {program} {self.program}\n" if program else ""
+        self.write("bin/rt", f'#!/bin/sh\necho "${{PWD##*/}}: $@" >>{self.root}/calls\ncd {self.root}\ncat printed\n{copy}{then}\nexit {status}\n', 0o755)
 
     def calls(self):
         """What the stand-in for rt was called with since this was asked last."""
@@ -298,7 +311,7 @@ def builds(checks):
         def run(*said):
             """Draws, and compares whether rt was called."""
             checks.run(small.command, 0, page, said, env=small.with_rt())
-            checks.same("calls of rt", small.calls(), "check page\n" if said else "")
+            checks.same("calls of rt", small.calls(), "page: run\n" if said else "")
 
         small.stand_in(RAN)
         run(BUILDING, *PROGRESS)
@@ -348,7 +361,7 @@ def failing_builds(checks):
             checks.run(small.command, 1, b"", said, env=small.with_rt())
 
         not_built = ("not-built", f"draw: the program was not proved and built; {small.path('target/draw.log')} says why")
-        small.stand_in(LEAF + "rt: middle NOT PROVED (exit 1, 3 s)\nrt: FAILED: middle page\n", 1, None)
+        small.stand_in(LEAF + NOT_PROVED, 1, None)
         run(BUILDING, PROGRESS[0], not_built)
         small.stand_in(LEAF, 0, None)
         run(BUILDING, PROGRESS[0], not_built)
@@ -405,7 +418,7 @@ def programs(checks):
     with tree() as small:
         def run(program, out, *said, mode=0o755):
             """Draws two records with a program of the test's own."""
-            small.write("target/bin/page", program, mode)
+            small.write("crates/page/out/page", program, mode)
             checks.run([*small.command, "-"], 1, out, said, env=small.with_rt(), input=b"7 o\n6 o\n")
 
         run("#!/bin/sh\ncat >/dev/null; echo o; echo cannot write record 1 >&2\n", b"o\n", (None, "cannot write record 1"))
@@ -419,22 +432,29 @@ def programs(checks):
 
 
 def real_build(checks):
-    """The toolchain prints what `draw` takes its progress from: a program made older than its sources is found unchanged, crate by crate."""
-    os.utime(path_of("page"), (0, 0))
-    with start(DRAWER) as run:
-        out, said = ended(run)
-    lines, count = said.decode().splitlines(), len(needed("page"))
-    checks.compare(DRAWER, (run.returncode, out, b""), 0, read(os.path.join(EXAMPLES, "merges.page")), ())
-    checks.same("the first line", lines[:1], [AGAIN[1]])
-    checks.same("the progress", [line.partition(":")[0] for line in lines[1:]], [f"  {at} of {count}" for at in range(1, count + 1)])
-    checks.same("the crates", {line.partition(": ")[2] for line in lines[1:]}, needed("page"))
+    """The toolchain itself builds a program where `draw` looks for it, and prints what `draw` takes its progress from: of each crate that is
+    proved anew."""
+    with tree() as small:
+        def run(*said):
+            """Draws."""
+            checks.run(small.command, 0, b"o\n", said, limit=REAL_LIMIT)
+
+        shutil.rmtree(small.path("crates"))
+        for file, text in REAL.items():
+            small.write(file, text)
+        run(BUILDING, *PROGRESS)
+        run()
+        os.utime(small.path("crates/leaf/src/lib.rt"))
+        run(AGAIN)
+        small.write("crates/middle/src/lib.rt", REAL["crates/middle/src/lib.rt"].replace("Another", "A changed"))
+        run(AGAIN, *PROGRESS[1:])
 
 
 def main():
     """Tries all parts, and gives the exit status."""
     for program, command in (("page", "./draw"), ("listing", "./draw --listing")):
         if not os.path.exists(path_of(program)) or is_outdated(program):
-            print(f"target/bin/{program} is not there, or older than its sources: {command} proves and builds it")
+            print(f"crates/{program}/out/{program} is not there, or older than its sources: {command} proves and builds it")
             return 1
     checks = Checks()
     parts = (examples, refusals, files_and_streams, tables_and_records, read_errors, toolchain_missing, builds, failing_builds, ended_builds, early_interrupt,

@@ -4,16 +4,18 @@ import glob
 import re
 import sys
 
-# an import, and a name that is passed on
-IMPORT, PASSED_ON = r"^ *(?:ghost )?use .*$", r"^ *pub use .*$"
+# an import, and a name that is passed on: in a line, or up to the semicolon where the braces are closed further down
+IMPORT, PASSED_ON = (rf"^ *{before}use (?:[^{{\n]*\{{[^}}]*\}}.*|.*)$" for before in ("(?:ghost )?", "pub "))
 # where a comment begins, by the file's ending
 COMMENT = {"antt": r"--.*", "rt": r"//.*"}
+# the places of a crate's files; what rt makes beside them is none of ours
+PLACES = "crates/*/{}/**/*.{}"
 
 
 def imported(line):
     """The names that an import brings in: those in its braces, else one; of a renamed one, the new name."""
-    braces = re.search(r"\{(.*)\}", line)
-    for item in braces[1].split(",") if braces else [line]:
+    braces = re.search(r"(?s)\{(.*)\}", line)
+    for item in filter(str.strip, braces[1].split(",") if braces else [line]):
         yield re.split(r"::|\s+", item.strip().rstrip(";"))[-1]
 
 
@@ -25,13 +27,13 @@ def words(text, ending):
 
 def is_used(name, used):
     """Whether a name is among the words used; an operator may stand there by its signs."""
-    operator = name.startswith("_") or name.endswith("_")
-    return name in used or operator and used.issuperset(filter(None, name.split("_")))
+    return name in used or "◌" in name and used.issuperset(filter(None, name.split("◌")))
 
 
 def main():
     count, faults = 0, []
-    for path in sorted(glob.glob("crates/**/*.antt", recursive=True) + glob.glob("crates/**/*.rt", recursive=True)):
+    places = [PLACES.format(*place) for place in (("src", "rt"), ("specs", "antt"), ("proofs", "antt"))]
+    for path in sorted(path for place in places for path in glob.glob(place, recursive=True)):
         ending = path.rsplit(".", 1)[1]
         with open(path, encoding="utf-8") as file:
             text = re.sub(COMMENT[ending], "", file.read())

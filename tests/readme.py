@@ -29,7 +29,7 @@ TABLE = "<!-- tools/refusals.py -->\n", "<!-- end -->\n"
 LAST = 12
 
 # what has a slash and is no path of the repository: what a build makes, and what stands beside the repository
-ELSEWHERE = r"target/|\.\./shared\b"
+ELSEWHERE = r"target/|crates/\w+/out\b|/dev/|\.\./shared\b"
 
 
 def quotes():
@@ -57,7 +57,7 @@ def constants():
 def given():
     """The words of the code outside the refusals' own file, without comments and without names that are only passed on."""
     files = [path for path in glob.glob("crates/*/src/**/*.rt", recursive=True) if path != NUMBERS]
-    texts = (re.sub(r"//.*|(?m:^ *pub use .*$)", "", read_text(path)) for path in files)
+    texts = (re.sub(r"//.*|(?m:^ *pub use [^;]*;)", "", read_text(path)) for path in files)
     return {word for text in texts for word in re.findall(r"\w+", text)}
 
 
@@ -97,8 +97,8 @@ def untold_files():
 
 def crates():
     """The crates, each with those that it uses."""
-    lines = (line.partition(":") for line in read_text("crates.txt").splitlines() if line.strip())
-    return {name.strip(): used.split() for name, _, used in lines}
+    lines = (line.partition("#")[0].partition(":") for line in read_text("crates.txt").splitlines())
+    return {name.split()[0]: used.split() for name, _, used in lines if name.strip()}
 
 
 def functions():

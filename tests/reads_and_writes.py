@@ -18,6 +18,8 @@ sys.dont_write_bytecode = True
 import cases
 from common import LIMIT
 
+from building import path_of
+
 RECORD = cases.RECORD
 
 # the bytes of stack with which a program has to do: more than it needs (docs/HOUSE.md) by what the system puts in front of it
@@ -59,7 +61,7 @@ class ListingExample:
 def run(program, before=None, **how):
     """What a program writes on both outputs; `before` is done in its process first."""
     how = {"stdout": subprocess.PIPE, "stderr": subprocess.PIPE, "timeout": LIMIT, "preexec_fn": before, "check": True} | how
-    ended = subprocess.run([f"target/bin/{program}"], **how)
+    ended = subprocess.run([path_of(program)], **how)
     return ended.stdout, ended.stderr.decode()
 
 
@@ -120,7 +122,7 @@ def pieces(program, example):
     """Records that come byte by byte, or two and a half at a time, are the same records."""
     given = example.records[:2 * RECORD]
     for size in (1, 100, RECORD, 320):
-        with subprocess.Popen([f"target/bin/{program}"], stdin=subprocess.PIPE, stdout=subprocess.PIPE, stderr=subprocess.PIPE, bufsize=0) as running:
+        with subprocess.Popen([path_of(program)], stdin=subprocess.PIPE, stdout=subprocess.PIPE, stderr=subprocess.PIPE, bufsize=0) as running:
             for at in range(0, len(given), size):
                 running.stdin.write(given[at:at + size])
             expect(f"{program}, {size} bytes at a time", running.communicate(timeout=LIMIT), (example.drawn(2), b""))

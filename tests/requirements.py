@@ -26,6 +26,8 @@ PLACES = ("oracle/", "tests/", "examples/", "docs/", "crates/", "./")
 # names in backquotes that are nothing of ours: words of the language and of the document, and files of a program
 OTHER = {"requires", "ensures", "&mut out[at..]", "&mut drawn[at..]", "..", "stdin", "stdout"}
 
+# the folders of a crate that hold its files, each with their ending
+PARTS = (("src", ".rt"), ("specs", ".antt"), ("proofs", ".antt"))
 # how a definition begins, by the file's ending: a name with its type, a record or a data type; an item
 BEGINS = {
     ".antt": r"(?m)^ *(?:abbrev |unfoldable )?(?:pub )?(?:(?:record|data) |(?=\S+(?: \{[^}\n]*\})* :\s))([^\s:=(){}]+)",
@@ -76,9 +78,9 @@ class Sources:
     """All that the document can name."""
 
     def __init__(self):
-        paths = [path for ending in BEGINS for path in glob.glob(f"crates/**/*{ending}", recursive=True)]
+        paths = [path for part, ending in PARTS for path in glob.glob(f"crates/*/{part}/**/*{ending}", recursive=True)]
         self.files = {path: Source(path) for path in paths}
-        self.crates = {line.split(":")[0] for line in read_text("crates.txt").splitlines()}
+        self.crates = set(re.findall(r"(?m)^(\w+)[^#\n]*:", read_text("crates.txt")))
         self.tests = set(re.findall(r"(?m)^ *check (\S+)", read_text("test")))
         self.mutants = set.union(*map(listed, MUTANTS))
         self.names = set.union(self.crates, *(file.names for file in self.files.values()))

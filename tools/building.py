@@ -17,26 +17,34 @@ LOG = os.path.join(ROOT, "target", "draw.log")
 # the folders of a crate that a program is made of
 PARTS = ("src", "specs", "proofs")
 
-# the line with which `rt check` ends a crate
-PROVED = re.compile(rb"rt: (\w+) proved \(")
+# the lines with which `rt run` ends a crate that was proved: its name, and further down the verdict
+NAMED, PROVED = re.compile(rb"crate (\w+): "), re.compile(rb"logic=proved\b")
+
+
+def folder_of(program):
+    """The folder of a program's crate."""
+    return os.path.join(ROOT, "crates", program)
 
 
 def path_of(program):
     """Where a program lies once it is built."""
-    return os.path.join(ROOT, "target", "bin", program)
+    return os.path.join(folder_of(program), "out", program)
 
 
 def needed(program):
-    """The crates that a program is made of: those that crates.txt names for it and for them, and itself."""
+    """The crates that a program is made of, those that crates.txt names for it and for them, and itself: in the order in which rt proves them."""
     with open(CRATES, encoding="utf-8") as file:
         lines = [line.partition("#")[0].partition(":") for line in file]
-    named = {crate.strip(): crates.split() for crate, _, crates in lines}
-    found, waiting = set(), [program]
-    while waiting:
-        crate = waiting.pop()
+    named, found = {crate.split()[0]: crates.split() for crate, _, crates in lines if crate.strip()}, []
+
+    def add(crate):
+        """Adds a crate behind those that it uses."""
         if crate in named and crate not in found:
-            found.add(crate)
-            waiting += named[crate]
+            for used in named[crate]:
+                add(used)
+            found.append(crate)
+
+    add(program)
     return found
 
 
@@ -63,18 +71,20 @@ def is_outdated(program):
 
 
 def follow(program, log):
-    """Runs `rt check` on a program: what it prints goes into the log, and each proved crate is said. Gives its status."""
-    crates, at = needed(program), 0
-    command = ["rt", "check", program]
+    """Proves, builds and runs a program, with nothing to read: what rt prints goes into the log, and each crate that is proved anew is said, with
+    its place among all. Gives the status, which is the program's own where it ran."""
+    crates, crate = needed(program), None
     # in a process group of its own, so that a signal to `draw` ends all its processes
-    with subprocess.Popen(command, cwd=ROOT, stdin=subprocess.DEVNULL, stdout=subprocess.PIPE, stderr=subprocess.STDOUT,
+    with subprocess.Popen(["rt", "run"], cwd=folder_of(program), stdin=subprocess.DEVNULL, stdout=subprocess.PIPE, stderr=subprocess.STDOUT,
                           start_new_session=True) as run:
         try:
             for line in run.stdout:
                 log.write(line)
-                if proved := PROVED.match(line):
-                    at += 1
-                    say("progress", at=at, all=len(crates), crate=proved[1].decode())
+                if named := NAMED.match(line):
+                    crate = named[1].decode()
+                elif PROVED.match(line) and crate in crates:
+                    say("progress", at=crates.index(crate) + 1, all=len(crates), crate=crate)
+                    crate = None
         except BaseException:
             os.killpg(run.pid, signal.SIGTERM)
             raise
