@@ -32,10 +32,15 @@ def texts():
 
 
 def declared():
-    """The names in camel case that stand in the repository's definitions, lemmas and clauses."""
+    """The names in camel case that stand in the repository's definitions, lemmas and clauses, and those that a clause gives a definition."""
     found = {}
     for path in texts():
-        if path.endswith(".antt"):
+        if path.endswith(".rt"):
+            with open(path, encoding="utf-8") as f:
+                for line in f:
+                    if line.startswith("ghost use "):
+                        found.update((word, snake(word)) for word in re.findall(r" as ([a-z][A-Za-z0-9]*[A-Z][A-Za-z0-9]*)", line))
+        if path.endswith(".antt") and not path.endswith(("/Answers.antt", "/Invariants.antt")):
             with open(path, encoding="utf-8") as f:
                 for line in f:
                     if not line.lstrip().startswith("--"):

@@ -3,7 +3,7 @@
 #![tactic(auto)]
 
 ghost use Rattle.std.specs.Prelude.{◌≡◌, ◌+◌, min, max, set};
-ghost use Rattle.column.specs.Columns.{column_limit, rank as rank_of, holds, is_empty, is_reserved, is_ancestor, is_parent, is_named, column_at, merge as merged, first, find as findIn, vacant as vacantIn, direct, unblock as unblocked, live, empty_slot, slot_of, origin_or, started_by};
+ghost use Rattle.column.specs.Columns.{column_limit, rank as rank_of, holds, is_empty, is_reserved, is_ancestor, is_parent, is_named, column_at, merge as merged, first, find as find_in, vacant as vacant_in, direct, unblock as unblocked, live, empty_slot, slot_of, origin_or, started_by};
 
 // The most columns that are held.
 pub const COLUMN_LIMIT: usize = 64;
@@ -235,7 +235,7 @@ pub fn live_count(count: usize) -> usize
 
 // The first column that holds the id.
 pub fn find(slots: [Slot; COLUMN_LIMIT], count: usize, node: u32) -> Found
-    ensures { result ≡ findIn node (live count slots) }
+    ensures { result ≡ find_in node (live count slots) }
 {
     let n = live_count(count);
     let mut index: usize = 0;
@@ -286,7 +286,7 @@ pub fn first_other_empty(slots: [Slot; COLUMN_LIMIT], count: usize, skip: usize)
 
 // The first Empty column, else the index of a new last one: the limit itself where there is no room for one.
 pub fn vacant(slots: [Slot; COLUMN_LIMIT], count: usize) -> usize
-    ensures { result ≡ vacantIn (live count slots) }
+    ensures { result ≡ vacant_in (live count slots) }
 {
     let Found::At(index) = first_empty(slots, count) else {
         return live_count(count);

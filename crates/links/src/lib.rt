@@ -4,7 +4,7 @@
 ghost use Rattle.std.specs.Prelude.{◌≡◌, true, cond, ◌+◌, min, ltb};
 ghost use Rattle.render.specs.Link.{strokes};
 ghost use Rattle.links.specs.Links.{drawn_by, is_drawn, is_directly_drawn, is_indirectly_drawn, is_anonymously_drawn, found_as, is_at, bounds_of, passes_solid, passes_dashed, from_node, with_uprights, linked};
-ghost use Rattle.links.specs.Inner.{nobody, parent_of, kinds, reaching as reachingOf, reach_start, reach_last};
+ghost use Rattle.links.specs.Inner.{nobody, parent_of, kinds, reaching as reaching_of, reach_start, reach_last};
 
 use column::{COLUMN_LIMIT, Column, Found};
 use render::{Ancestor, Marks};
@@ -131,7 +131,7 @@ fn pick(first: bool, a: usize, b: usize) -> usize
 impl AncestorColumnBounds {
     // The bounds with one more column, in which an entry draws.
     fn reaching(self, index: usize, drawn: Drawn) -> AncestorColumnBounds
-        ensures { result ≡ reachingOf self index drawn }
+        ensures { result ≡ reaching_of self index drawn }
     {
         let target = self.target;
         let any = pick(drawn.is_drawn(), index, target);
@@ -147,7 +147,7 @@ impl AncestorColumnBounds {
 
     // The same, if an entry draws there; else they stay.
     fn with_column(self, index: usize, drawn: Drawn) -> AncestorColumnBounds
-        ensures { result ≡ cond (is_drawn drawn) (reachingOf self index drawn) self }
+        ensures { result ≡ cond (is_drawn drawn) (reaching_of self index drawn) self }
     {
         if drawn.is_drawn() {
             return self.reaching(index, drawn);

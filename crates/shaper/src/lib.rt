@@ -3,7 +3,7 @@
 
 ghost use Rattle.std.specs.Prelude.{◌≡◌};
 ghost use Rattle.column.specs.Columns.{live, origins, or_else};
-ghost use Rattle.shaper.specs.Shaper.{view_of, view_with, fresh, refused_options, origin as originOfId, Fresh, Reserves};
+ghost use Rattle.shaper.specs.Shaper.{view_of, view_with, fresh, refused_options, origin as origin_of_id, Fresh, Reserves};
 ghost use Rattle.shaper.specs.NodeColumn.{head_at, unallocated, fitting, Finds};
 
 use column::{COLUMN_LIMIT, Column, Found, Slot, Started};
@@ -180,7 +180,7 @@ impl Shaper {
 
     // Who started an id's line.
     pub fn origin(self, node: u32) -> Started
-        ensures { result ≡ originOfId (view_of self) node }
+        ensures { result ≡ origin_of_id (view_of self) node }
     {
         let slots = self.slots;
         let Found::At(index) = column::find(slots, self.count, node) else {

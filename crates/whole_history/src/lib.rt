@@ -9,7 +9,7 @@ ghost use Rattle.row_shape.specs.Promises.{Rows};
 ghost use Rattle.lineage.specs.Promises.{LentRows};
 ghost use Rattle.record.specs.Record.{record_length, id_at, entry_of};
 ghost use Rattle.record.specs.Promises.{entries_with};
-ghost use Rattle.whole_history.specs.Shapes.{flag as flagOf, node_number, pad_number, cell_bytes, head_bytes, shape_bytes, preview_bytes};
+ghost use Rattle.whole_history.specs.Shapes.{flag as flag_of, node_number, pad_number, cell_bytes, head_bytes, shape_bytes, preview_bytes};
 ghost use Rattle.whole_history.specs.Whole.{entries_of, renderer_of, whole_text, whole_shapes, whole_previews, whole_lines};
 
 use column::{COLUMN_LIMIT, Found};
@@ -131,7 +131,7 @@ fn pad_number(cell: PadLine) -> u8
 
 // A flag's byte.
 fn flag(holds: bool) -> u8
-    ensures { result ≡ flagOf holds }
+    ensures { result ≡ flag_of holds }
 {
     if holds { 1 } else { 0 }
 }

@@ -5,7 +5,7 @@ ghost use Rattle.std.specs.Prelude.{◌≡◌, suc, ◌-◌, ◌≤◌};
 ghost use Rattle.column.specs.Columns.{column_limit, is_empty, live};
 ghost use Rattle.render.specs.Entries.{entry_limit, given};
 ghost use Rattle.shaper.specs.Shaper.{view_of};
-ghost use Rattle.width.specs.Width.{count as count_of, unheld, apart as apartOf, take_one, for_node};
+ghost use Rattle.width.specs.Width.{count as count_of, unheld, apart as apart_of, take_one, for_node};
 ghost use Rattle.width.specs.Promises.{Widths};
 
 use column::{COLUMN_LIMIT, Found, Slot};
@@ -82,7 +82,7 @@ fn unallocated_parents(slots: [Slot; COLUMN_LIMIT], count: usize, entries: Entri
 // What is left where a node that no column holds is kept out of the previous node's column.
 fn apart(slots: [Slot; COLUMN_LIMIT], count: usize, previous: usize, room: Room) -> Room
     requires { room.wide ≤ column_limit }
-    ensures { (result ≡ apartOf (Found.At previous) (live count slots) room) × (result.wide ≤ suc column_limit) }
+    ensures { (result ≡ apart_of (Found.At previous) (live count slots) room) × (result.wide ≤ suc column_limit) }
 {
     let n = column::live_count(count);
     if n == previous {
