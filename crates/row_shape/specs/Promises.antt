@@ -5,7 +5,6 @@ use Rattle.render.specs.declared.render.Entries.{Entries}
 use Rattle.render.specs.Entries.{listed}
 use Rattle.shaper.specs.declared.Shaper.{Shaper}
 use Rattle.row_shape.specs.declared.RowAnswer.{RowAnswer}
-use Rattle.render.specs.Refusals.{refusal}
 use Rattle.shaper.specs.Shaper.{view_of}
 use Rattle.row_shape.specs.Row.{RowReply, row}
 

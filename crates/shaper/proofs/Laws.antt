@@ -1,10 +1,10 @@
 -- Laws of the definitions in specs/Shaper.antt, one for each return of the calls.
 use Prim.Native.Nat.{ℕ, ◌+◌, ◌≤◌, ◌<◌, min, max}
-use mathlib.Core.Path.{◌≡◌, refl, ◌∙◌, sym}
+use mathlib.Core.Path.{◌≡◌, refl, sym}
 use mathlib.Core.Bool.{false}
-use mathlib.Core.List.{List, map}
+use mathlib.Core.List.{List}
 use native.Mathlib.Omega.{arith}
-use lib.ListN.{length, get_or, set, length-map}
+use lib.ListN.{length, get_or, set}
 use borrow.Author.Tests.{le-leb, lt-leb, lt-ltb, le-ltb}
 use Rattle.column.specs.declared.Column.{Column}
 use Rattle.column.specs.declared.Column.TheVariants.{Empty, Blocked, Reserved, Ancestor, Parent}
@@ -23,7 +23,6 @@ use Rattle.shaper.specs.Shaper.{height_limit, view_of, View, fresh, refused_opti
 use Rattle.column.specs.declared.Found.{Found}
 use Rattle.render.specs.declared.render.Entry.{Entry}
 use Rattle.render.specs.declared.types.Options.{Options}
-use Rattle.render.specs.contracts.render.Entry as Entry'
 use Rattle.render.proofs.EntryLaws.{few-count}
 
 -- an array of slots has 64, by what the prover knows of an array that is a struct's field

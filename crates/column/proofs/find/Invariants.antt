@@ -1,11 +1,9 @@
 -- The first column that holds the id.
 use Prim.Native.Nat.{◌≤◌, ◌-◌}
-use mathlib.Core.Path.{◌≡◌, sym, ◌∙◌}
-use native.Mathlib.Omega.{arith}
-use borrow.Author.Rules.{rules}
+use mathlib.Core.Path.{◌≡◌}
 use lib.ListN.{drop}
 use Rattle.column.specs.Columns.{live, first, holds}
-use Rattle.column.proofs.Laws.{later, later-zero, first-hit, first-miss, first-end, live_at, live_below, live-past}
+use Rattle.column.proofs.Laws.{later}
 use Rattle.column.proofs.find.Given as goal
 
 abbrev pub invariant-loop-index : goal.invariant-loop-index

@@ -1,11 +1,9 @@
 -- The first Empty column.
 use Prim.Native.Nat.{◌≤◌, ◌-◌}
-use mathlib.Core.Path.{◌≡◌, sym, ◌∙◌}
-use native.Mathlib.Omega.{arith}
-use borrow.Author.Rules.{rules}
+use mathlib.Core.Path.{◌≡◌}
 use lib.ListN.{drop}
 use Rattle.column.specs.Columns.{live, first, is_empty}
-use Rattle.column.proofs.Laws.{later, later-zero, first-hit, first-miss, first-end, live_at, live_below, live-past}
+use Rattle.column.proofs.Laws.{later}
 use Rattle.column.proofs.first_empty.Given as goal
 
 abbrev pub invariant-loop-i : goal.invariant-loop-i

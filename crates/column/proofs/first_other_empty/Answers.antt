@@ -1,23 +1,21 @@
 -- The first Empty column but column `skip`.
-use Prim.Native.Nat.{◌≤◌, ◌-◌}
-use mathlib.Core.Path.{◌≡◌, sym, ◌∙◌}
+use mathlib.Core.Path.{sym, ◌∙◌}
 use native.Mathlib.Omega.{arith}
-use borrow.Author.Rules.{rules}
-use lib.ListN.{drop, set, length-set}
+use lib.ListN.{set}
 use lib.Seq.{lt-length-set}
-use Rattle.column.specs.Columns.{live, first, is_empty}
-use Rattle.column.proofs.Laws.{later, later-zero, first-hit, first-miss, first-end, live_at, live_below, live-past, other-empty}
+use Rattle.column.specs.Columns.{live, is_empty}
+use Rattle.column.proofs.Laws.{first-hit, first-miss, live_at, live_below, other-empty}
 use Rattle.column.specs.declared.Column.TheVariants.{Blocked}
 use Rattle.column.proofs.first_other_empty.Goals as goal
 
 pub returns-then-is_empty-place : goal.returns-then-is_empty-place
-returns-then-is_empty-place c = 
+returns-then-is_empty-place c =
     let a = c.args in
     sym (c.loop-place.invariant.1 ∙ first-hit is_empty (set (live a.count a.slots) a.skip Blocked) c.loop-place.place (lt-length-set (live a.count a.slots) a.skip Blocked (live_below a.count a.slots c.loop-place.place (omega arith) (omega arith)))
     (rw (other-empty (live a.count a.slots) a.skip c.loop-place.place (live_below a.count a.slots c.loop-place.place (omega arith) (omega arith)), live_at a.count a.slots c.loop-place.place (omega arith) (omega arith), ← c.is_empty.ensures) c.if-is_empty-place.true))
 
 pub loop-place-preserved : goal.loop-place-preserved
-loop-place-preserved c = 
+loop-place-preserved c =
     let a = c.args in (
       omega arith,
       c.loop-place.invariant.1 ∙ first-miss is_empty (set (live a.count a.slots) a.skip Blocked) c.loop-place.place (lt-length-set (live a.count a.slots) a.skip Blocked (live_below a.count a.slots c.loop-place.place (omega arith) (omega arith)))

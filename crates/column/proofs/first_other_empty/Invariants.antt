@@ -1,12 +1,9 @@
 -- The first Empty column but column `skip`.
 use Prim.Native.Nat.{◌≤◌, ◌-◌}
-use mathlib.Core.Path.{◌≡◌, sym, ◌∙◌}
-use native.Mathlib.Omega.{arith}
-use borrow.Author.Rules.{rules}
-use lib.ListN.{drop, set, length-set}
-use lib.Seq.{lt-length-set}
+use mathlib.Core.Path.{◌≡◌}
+use lib.ListN.{drop, set}
 use Rattle.column.specs.Columns.{live, first, is_empty}
-use Rattle.column.proofs.Laws.{later, later-zero, first-hit, first-miss, first-end, live_at, live_below, live-past, other-empty}
+use Rattle.column.proofs.Laws.{later}
 use Rattle.column.specs.declared.Column.TheVariants.{Blocked}
 use Rattle.column.proofs.first_other_empty.Given as goal
 

@@ -1,12 +1,9 @@
 -- Whether a message may hold each of the bytes.
 use Prim.Native.Nat.{◌≤◌, ◌-◌}
-use mathlib.Core.Path.{◌≡◌, refl}
+use mathlib.Core.Path.{◌≡◌}
 use mathlib.Core.Bool.{◌&&◌}
-use native.Mathlib.Omega.{arith}
 use lib.ListN.{length, drop}
 use Rattle.message.specs.Message.{all_of, is_writable}
-use Rattle.message.proofs.MessageLaws.{all-next, all_done}
-use borrow.Author.Rules.{rules}
 use Rattle.message.proofs.are_writable.Given as goal
 
 abbrev pub invariant-loop-i : goal.invariant-loop-i

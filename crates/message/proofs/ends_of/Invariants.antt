@@ -1,11 +1,8 @@
 -- How many of a few bytes end a line.
 use Prim.Native.Nat.{◌≤◌, ◌+◌, ◌-◌}
 use mathlib.Core.Path.{◌≡◌}
-use native.Mathlib.Omega.{arith}
 use lib.ListN.{length, drop}
 use Rattle.message.specs.Inner.{ends, block_length}
-use Rattle.message.proofs.MessageLaws.{ends_next, ends-none}
-use borrow.Author.Rules.{rules}
 use Rattle.message.proofs.ends_of.Given as goal
 
 abbrev pub invariant-loop-i : goal.invariant-loop-i

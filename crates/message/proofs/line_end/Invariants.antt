@@ -1,11 +1,8 @@
 -- Where the line from `start` on ends: at the next 0A, or where the message ends.
 use Prim.Native.Nat.{◌≤◌, ◌+◌, ◌-◌}
 use mathlib.Core.Path.{◌≡◌}
-use native.Mathlib.Omega.{arith}
 use lib.ListN.{length, drop}
 use Rattle.message.specs.Message.{line_length}
-use Rattle.message.proofs.MessageLaws.{length_more, length-here, length-past}
-use borrow.Author.Rules.{rules}
 use Rattle.message.proofs.line_end.Given as goal
 
 abbrev pub invariant-loop-end : goal.invariant-loop-end

@@ -1,11 +1,8 @@
 -- How many of a message's lines are ended.
 use Prim.Native.Nat.{◌≤◌, ◌+◌, ◌-◌}
 use mathlib.Core.Path.{◌≡◌}
-use native.Mathlib.Omega.{arith}
 use lib.ListN.{length, drop}
 use Rattle.message.specs.Inner.{ends}
-use Rattle.message.proofs.MessageLaws.{block, block-long, ends-block, ends-few, ends-none}
-use borrow.Author.Rules.{rules}
 use Rattle.message.proofs.line_ends.Given as goal
 
 abbrev pub invariant-loop-at : goal.invariant-loop-at

@@ -1,12 +1,8 @@
 -- The end of the line from `start` on, or a place before it: blocks that end no line are passed over.
 use Prim.Native.Nat.{◌≤◌, ◌+◌, ◌-◌}
-use mathlib.Core.Path.{◌≡◌, refl, sym, ◌∙◌}
-use native.Mathlib.Omega.{arith}
+use mathlib.Core.Path.{◌≡◌}
 use lib.ListN.{length, drop}
 use Rattle.message.specs.Message.{line_length}
-use Rattle.message.specs.Inner.{block_length}
-use Rattle.message.proofs.MessageLaws.{block-long, line-block}
-use borrow.Author.Rules.{rules}
 use Rattle.message.proofs.near_line_end.Given as goal
 
 abbrev pub invariant-loop-end : goal.invariant-loop-end

@@ -1,18 +1,11 @@
 -- The first entries, as many as there are parents.
 use borrow.Author.Rules.{rules}
-use Prim.Native.Nat.{ℕ, ◌≤◌, ◌-◌}
-use mathlib.Core.Path.{◌≡◌, ap, ◌∙◌}
-use mathlib.Core.List.{map}
 use native.Mathlib.Omega.{arith}
-use lib.ListN.{length}
-use Rattle.render.specs.Entries.{entry_limit}
-use Rattle.record.specs.Record.{record_length, entry_of, written_from}
-use Rattle.record.specs.Promises.{entries_with}
 use Rattle.record.proofs.RecordLaws.{entries_next}
 use Rattle.record.proofs.entries_of.Goals as goal
 
 pub loop-i-preserved : goal.loop-i-preserved
-loop-i-preserved c = 
+loop-i-preserved c =
     let a = c.args in
     let l = c.loop-i in
     (search rules, search rules, search rules, entries_next a.left.now l.i l.invariant.3 c.entry_at.ensures c.push-entries.ensures (omega arith))

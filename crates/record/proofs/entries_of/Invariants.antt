@@ -1,14 +1,11 @@
 -- The first entries, as many as there are parents.
-use borrow.Author.Rules.{rules}
-use Prim.Native.Nat.{ℕ, ◌≤◌, ◌-◌}
-use mathlib.Core.Path.{◌≡◌, ap, ◌∙◌}
+use Prim.Native.Nat.{◌≤◌, ◌-◌}
+use mathlib.Core.Path.{◌≡◌}
 use mathlib.Core.List.{map}
-use native.Mathlib.Omega.{arith}
 use lib.ListN.{length}
 use Rattle.render.specs.Entries.{entry_limit}
 use Rattle.record.specs.Record.{record_length, entry_of, written_from}
 use Rattle.record.specs.Promises.{entries_with}
-use Rattle.record.proofs.RecordLaws.{entries_next}
 use Rattle.record.proofs.entries_of.Given as goal
 
 abbrev pub invariant-loop-i : goal.invariant-loop-i

@@ -1,12 +1,9 @@
 -- Whether one of the first entries has a kind above the highest.
-use borrow.Author.Rules.{rules}
-use Prim.Native.Nat.{ℕ, ◌≤◌, ◌-◌}
-use mathlib.Core.Path.{◌≡◌, ap}
-use native.Mathlib.Omega.{arith}
+use Prim.Native.Nat.{◌≤◌, ◌-◌}
+use mathlib.Core.Path.{◌≡◌}
 use lib.ListN.{length}
 use Rattle.render.specs.Entries.{entry_limit}
 use Rattle.record.specs.Record.{record_length, kind_limit, written_from, any_above}
-use Rattle.record.proofs.RecordLaws.{above_hit, above-next, above-none}
 use Rattle.record.proofs.has_other_kind.Given as goal
 
 abbrev pub invariant-loop-i : goal.invariant-loop-i

@@ -1,12 +1,9 @@
 -- The length of a message, which ends before the first zero byte.
-use borrow.Author.Rules.{rules}
 use Prim.Native.Nat.{◌≤◌, ◌-◌}
-use mathlib.Core.Path.{◌≡◌, refl}
+use mathlib.Core.Path.{◌≡◌}
 use mathlib.Core.List.{◌++◌}
-use native.Mathlib.Omega.{arith}
 use lib.ListN.{length, take, drop}
 use Rattle.record.specs.Record.{up_to_zero}
-use Rattle.record.proofs.RecordLaws.{zero-next, zero-here, zero-none}
 use Rattle.record.proofs.message_length.Given as goal
 
 abbrev pub invariant-loop-n : goal.invariant-loop-n

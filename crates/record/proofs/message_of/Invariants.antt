@@ -1,12 +1,9 @@
 -- The first n bytes, and zeros behind them.
-use borrow.Author.Rules.{rules}
 use Prim.Native.Nat.{◌≤◌, ◌-◌}
-use mathlib.Core.Path.{◌≡◌, refl, ap, ◌∙◌}
-use native.Mathlib.Omega.{arith}
+use mathlib.Core.Path.{◌≡◌}
 use lib.ListN.{length, take}
 use Rattle.record.specs.Record.{message_room}
 use Rattle.record.specs.Promises.{padded}
-use Rattle.record.proofs.RecordLaws.{pad-next}
 use Rattle.record.proofs.message_of.Given as goal
 
 abbrev pub invariant-loop-i : goal.invariant-loop-i

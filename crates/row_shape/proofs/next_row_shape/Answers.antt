@@ -1,36 +1,30 @@
 -- The row call: the walk over the entries keeps `Going` and `Carrying`, the loops over the cells keep the cells that are stored, and those that
 -- end the row the slots that are filled, and what is left of the columns.
-use borrow.Author.Rules.{rules}
-use borrow.Author.Tests.{not-true, not-false}
-use Prim.Native.Nat.{◌≤◌, ◌-◌}
 use mathlib.Core.Path.{◌≡◌, refl, ap, sym, ◌∙◌}
-use mathlib.Core.Logic.{◌⊎◌, inl, inr}
 use native.Mathlib.Omega.{arith}
-use lib.ListN.{length, length-set}
-use Rattle.column.specs.declared.Column.TheVariants.{Empty}
-use Rattle.column.specs.Columns.{column_limit, is_parent, trim, put, live}
+use lib.ListN.{length-set}
+use Rattle.column.specs.Columns.{is_parent, trim, live}
 use Rattle.column.proofs.Laws.{trim-turn, trim-stop, trim-done}
-use Rattle.placing.proofs.EndLaws.{Filling, filling-start, filling-next, filling-done}
+use Rattle.placing.proofs.EndLaws.{filling-start, filling-next, filling-done}
 use Rattle.render.specs.Entries.{given}
-use Rattle.shaper.specs.Shaper.{view_of}
 use Rattle.shaper.proofs.Laws.{slots-long, entries-long}
-use Rattle.placing.proofs.PlacingLaws.{Carrying, Going, going-over, going_next, carrying-next}
-use Rattle.row_shape.proofs.NextRow.{row-too-many, row-no-column, column-within, Begun, begun, bare, count-within, row-start, row_carries, entry_next, row_walked, row-no-room, other-within, row_done, Plain, plain-start, plain-next, Drawing, drawing-start, drawing-next}
+use Rattle.placing.proofs.PlacingLaws.{going-over, going_next, carrying-next}
+use Rattle.row_shape.proofs.NextRow.{row-too-many, row-no-column, begun, bare, row-start, row_carries, entry_next, row_walked, row-no-room, row_done, plain-next, drawing-start, drawing-next}
 use Rattle.row_shape.proofs.next_row_shape.Goals as goal
 use Rattle.row_shape.proofs.next_row_shape.Goals.{else-loop-at-2-test, then-loop-at-2-test+then-not-is_empty}
 
 pub returns-then-are_too_many : goal.returns-then-are_too_many
-returns-then-are_too_many c = 
+returns-then-are_too_many c =
     let a = c.args in
     row-too-many a.shaper a.node a.entries _ (sym c.are_too_many.ensures ∙ c.if-are_too_many.true) c.refused_row.ensures
 
 pub returns-in_default : goal.returns-in_default
-returns-in_default c = 
+returns-in_default c =
     let a = c.args in
     row-no-column a.shaper a.node a.entries (sym c.are_too_many.ensures ∙ c.if-are_too_many.false) _ _ _ c.find-existing.ensures c.find_column.ensures c.in_default.is c.refused_row-in_default.ensures
 
 pub loop-i-init : goal.loop-i-init
-loop-i-init c = 
+loop-i-init c =
     let a = c.args in
     let b = begun a.shaper a.node a.entries _ _ _ _ (sym c.are_too_many.ensures ∙ c.if-are_too_many.false) c.find-existing.ensures c.find_column.ensures c.in-At.is c.live_count-live.ensures
     (slots-long a.shaper.slots c.well_formed.0.1.1.0.1.0.1) (entries-long a.entries.list c.well_formed.1.1.0.1.1.0.1.0.1) in (
@@ -43,7 +37,7 @@ loop-i-init c =
     )
 
 pub returns-then-index-ge-COLUMN_LIMIT : goal.returns-then-index-ge-COLUMN_LIMIT
-returns-then-index-ge-COLUMN_LIMIT c = 
+returns-then-index-ge-COLUMN_LIMIT c =
     let v = c.loop-i in
     let a = c.args in
     let b = v.invariant.1 in
@@ -52,7 +46,7 @@ returns-then-index-ge-COLUMN_LIMIT c =
     row-no-room a.shaper a.node a.entries _ _ _ b _ (going-over bs _ (given a.entries) v.i v.slots v.count v.parents v.parent_column v.need_term_line v.invariant.2 _ (entry_next a.shaper a.node a.entries _ _ _ b v.i _ h) _ c.parent_column-index.ensures c.if-index-ge-COLUMN_LIMIT.true) c.refused_row-then-index-ge-COLUMN_LIMIT.ensures
 
 pub loop-i-preserved : goal.loop-i-preserved
-loop-i-preserved c = 
+loop-i-preserved c =
     let v = c.loop-i in
     let a = c.args in
     let b = v.invariant.1 in
@@ -65,7 +59,7 @@ loop-i-preserved c =
     )
 
 pub loop-p-preserved : goal.loop-p-preserved
-loop-p-preserved c = 
+loop-p-preserved c =
     let v = c.loop-p in
     plain-next _ _ _ _ _ _ _ _ _ v.p v.cells _ _ _ _ v.invariant c.loop-p-test.true c.plain_cell-parent.ensures c.plain_cell-ancestor.ensures c.blank-blank.ensures c.shown.ensures
 
@@ -73,24 +67,24 @@ pub loop-k-init : goal.loop-k-init
 loop-k-init c = drawing-start _ _ _ _ _ _ _ _ _ c.loop-p.p _ _ c.reach_start-k.ensures c.loop-p-test.false c.loop-p.invariant
 
 pub loop-k-preserved : goal.loop-k-preserved
-loop-k-preserved c = 
+loop-k-preserved c =
     let v = c.loop-k in
     drawing-next _ _ _ _ _ _ _ _ _ v.k v.cells _ _ v.invariant (omega (arith, c.loop-k-test.true, c.reach_end-end.ensures)) c.cell.ensures c.column_before-bare_column.ensures
 
 pub loop-at-init : goal.loop-at-init
-loop-at-init c = 
+loop-at-init c =
     let v = c.loop-i in
     let a = c.args in
     let g = row_walked a.shaper a.node a.entries _ _ _ v.invariant.1 _ _ _ _ _ _ v.invariant.2 c.loop-i-test.false in
     (filling-start _ _ _ _ c.loop-k.invariant.fits (rw (length-set, length-set) g.long) (rw c.empty-empty.ensures), refl, refl)
 
 pub loop-at-preserved : goal.loop-at-preserved
-loop-at-preserved c = 
+loop-at-preserved c =
     let v = c.loop-at in
     (filling-next _ _ _ v.at v.next.slots _ v.invariant.0 c.loop-at-test.true c.ended.ensures, v.invariant.1, v.invariant.2)
 
 pub loop-at-2-preserved : goal.loop-at-2-preserved
-loop-at-2-preserved c = 
+loop-at-2-preserved c =
     let w = c.loop-at-2 in (
       omega (arith, w.invariant.0),
       w.invariant.1,
@@ -99,7 +93,7 @@ loop-at-2-preserved c =
     )
 
 pub returns : goal.returns
-returns c = 
+returns c =
     let w = c.loop-at-2 in
     let v = c.loop-i in
     let a = c.args in
@@ -107,10 +101,10 @@ returns c =
     let g = row_walked a.shaper a.node a.entries _ _ _ b _ _ _ _ _ _ v.invariant.2 c.loop-i-test.false in
     -- Empty columns at the end went
     let left : live w.at c.loop-at.next.slots ≡ trim (live c.loop-at.at c.loop-at.next.slots) =
-        elim c.loop-at-2-test.branch [
-        else-loop-at-2-test x ↦ trim-done w.at _ (omega (arith, x.loop-at-2-test.false)) ∙ w.invariant.3
-        | then-loop-at-2-test+then-not-is_empty x ↦ trim-stop w.at _ (omega (arith, x.loop-at-2-test.true)) (omega (arith, w.invariant.0, w.invariant.1, w.invariant.2)) (sym x.is_empty.ensures ∙ x.if-not-is_empty.true) ∙ w.invariant.3
-        ] in
+    elim c.loop-at-2-test.branch [
+      | else-loop-at-2-test x ↦ trim-done w.at _ (omega (arith, x.loop-at-2-test.false)) ∙ w.invariant.3
+      | then-loop-at-2-test+then-not-is_empty x ↦ trim-stop w.at _ (omega (arith, x.loop-at-2-test.true)) (omega (arith, w.invariant.0, w.invariant.1, w.invariant.2)) (sym x.is_empty.ensures ∙ x.if-not-is_empty.true) ∙ w.invariant.3
+    ] in
     row_done a.shaper a.node a.entries _ _ _ b _ _ _ _ _ g _ c.given_up-given_up.ensures _ c.or_else-other.ensures _ refl _ (rw c.nobody-nobody.ensures refl) _
     (c.is_parent.ensures ∙ ap is_parent c.column_before-old.ensures) _ c.new-bounds.ensures _ c.need_link_line-need_link_line.ensures _ c.loop-k.k
     (omega (arith, c.loop-k-test.false, c.reach_end-end.ensures)) c.loop-k.invariant _ _ c.is_head-is_head.ensures c.separator_line-separator_line.ensures _

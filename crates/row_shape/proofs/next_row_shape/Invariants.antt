@@ -1,25 +1,19 @@
 -- The row call: the walk over the entries keeps `Going` and `Carrying`, the loops over the cells keep the cells that are stored, and those that
 -- end the row the slots that are filled, and what is left of the columns.
-use borrow.Author.Rules.{rules}
-use borrow.Author.Tests.{not-true, not-false}
 use Prim.Native.Nat.{◌≤◌, ◌-◌}
-use mathlib.Core.Path.{◌≡◌, refl, ap, sym, ◌∙◌}
-use mathlib.Core.Logic.{◌⊎◌, inl, inr}
-use native.Mathlib.Omega.{arith}
-use lib.ListN.{length, length-set}
+use mathlib.Core.Path.{◌≡◌}
+use lib.ListN.{length}
 use Rattle.column.specs.declared.Column.TheVariants.{Empty}
-use Rattle.column.specs.Columns.{column_limit, is_parent, trim, put, live}
-use Rattle.column.proofs.Laws.{trim-turn, trim-stop, trim-done}
-use Rattle.placing.proofs.EndLaws.{Filling, filling-start, filling-next, filling-done}
+use Rattle.column.specs.Columns.{column_limit, trim, put, live}
+use Rattle.placing.proofs.EndLaws.{Filling}
 use Rattle.render.specs.Entries.{given}
 use Rattle.shaper.specs.Shaper.{view_of}
-use Rattle.shaper.proofs.Laws.{slots-long, entries-long}
-use Rattle.placing.proofs.PlacingLaws.{Carrying, Going, going-over, going_next, carrying-next}
-use Rattle.row_shape.proofs.NextRow.{row-too-many, row-no-column, column-within, Begun, begun, bare, count-within, row-start, row_carries, entry_next, row_walked, row-no-room, other-within, row_done, Plain, plain-start, plain-next, Drawing, drawing-start, drawing-next}
+use Rattle.placing.proofs.PlacingLaws.{Carrying, Going}
+use Rattle.row_shape.proofs.NextRow.{Begun, Plain, Drawing}
 use Rattle.row_shape.proofs.next_row_shape.Given as goal
 
 abbrev pub invariant-loop-i : goal.invariant-loop-i
-invariant-loop-i l = 
+invariant-loop-i l =
     (l.i ≤ l.n) × Begun l.shaper l.node l.entries l.existing l.column l.live × Going (put (live l.live l.shaper.slots) l.column Empty) l.column (given l.entries) l.i l.slots l.count l.parents l.parent_column l.need_term_line
     × Carrying l.node (put (live l.live l.shaper.slots) l.column Empty) (view_of l.shaper).origins l.slots l.count
 

@@ -1,11 +1,7 @@
 -- How many columns are Empty.
 use Prim.Native.Nat.{◌≤◌, ◌-◌}
-use mathlib.Core.Path.{sym, ◌∙◌}
-use mathlib.Core.Logic.{⊎_elim}
-use native.Mathlib.Omega.{arith}
-use borrow.Author.Rules.{rules}
 use Rattle.column.specs.Columns.{is_empty, live}
-use Rattle.width.proofs.WidthLaws.{Counting, counting-start, counting-hit, counting-miss, counting-end, live-next, live_end}
+use Rattle.width.proofs.WidthLaws.{Counting}
 use Rattle.width.proofs.empty_columns.Given as goal
 
 abbrev pub invariant-loop-i : goal.invariant-loop-i

@@ -1,17 +1,12 @@
 -- How many entries have no column.
 use Prim.Native.Nat.{◌≤◌, ◌-◌}
-use mathlib.Core.Path.{◌≡◌, ap, sym, ◌∙◌}
-use mathlib.Core.Logic.{⊎_elim}
-use native.Mathlib.Omega.{arith}
-use borrow.Author.Rules.{rules}
+use mathlib.Core.Path.{◌≡◌}
 use lib.ListN.{length}
 use Rattle.column.specs.Columns.{live}
 use Rattle.render.specs.Entries.{entry_limit}
-use Rattle.shaper.specs.Shaper.{is_nothing}
 use Rattle.width.specs.Width.{unheld}
-use Rattle.shaper.proofs.Laws.{entries-long}
-use Rattle.placing.proofs.PlacingLaws.{entries_in, given-next, given-end}
-use Rattle.width.proofs.WidthLaws.{Counting, counting-start, counting-hit, counting-miss, counting-end}
+use Rattle.placing.proofs.PlacingLaws.{entries_in}
+use Rattle.width.proofs.WidthLaws.{Counting}
 use Rattle.width.proofs.unallocated_parents.Given as goal
 
 abbrev pub invariant-loop-i : goal.invariant-loop-i

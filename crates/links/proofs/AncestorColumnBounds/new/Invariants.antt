@@ -1,10 +1,7 @@
 -- The bounds of the parents' columns, walked upward: the loop keeps `Bounding`.
-use borrow.Author.Rules.{rules}
 use Prim.Native.Nat.{◌≤◌, ◌-◌}
-use mathlib.Core.Path.{sym}
-use native.Mathlib.Omega.{arith}
 use Rattle.links.specs.Inner.{kinds}
-use Rattle.links.proofs.LinkLaws.{Bounding, bounding-start, bounding-column, bounding-end, kinds-at, kinds-below, kinds-past}
+use Rattle.links.proofs.LinkLaws.{Bounding}
 use Rattle.links.proofs.AncestorColumnBounds.new.Given as goal
 
 abbrev pub invariant-loop-i : goal.invariant-loop-i

@@ -1,8 +1,7 @@
 -- Who started an id's line: by the first column that holds the id.
-use borrow.Author.Rules.{rules}
 use mathlib.Core.Path.{sym, ◌∙◌}
 use native.Mathlib.Omega.{arith}
-use Rattle.shaper.proofs.Laws.{slots-long, not-waiting, started-found, found_within}
+use Rattle.shaper.proofs.Laws.{slots-long, started-found, found_within}
 use Rattle.shaper.proofs.Shaper.origin.Goals as goal
 
 pub offset_bounds-slots-index : goal.offset_bounds-slots-index

@@ -1,5 +1,4 @@
 -- The reserving call: an id already held, no column left, a column taken.
-use borrow.Author.Rules.{rules}
 use mathlib.Core.Path.{sym, ◌∙◌}
 use native.Mathlib.Omega.{arith}
 use Rattle.shaper.proofs.Laws.{slots-long, held-done, full-done, room-done}
