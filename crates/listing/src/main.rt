@@ -1,8 +1,7 @@
 // The listing program: lists the prefix lines of the records on standard input. All of it stands in the crate `programs`.
-
-// Runs it.
 #![tactic(auto)]
 
-fn main() {
-    programs::listing();
+// Runs it.
+fn main(rt: HostRuntime) {
+    programs::listing(&mut rt.stdin(), &mut rt.stdout(), &mut rt.stderr());
 }

@@ -11,7 +11,7 @@ use Rattle.programs.specs.Programs.{after_reads, WentOn, StoppedOn}
 
 module _ (step : ProgressView → List ℕ → List ℕ → StepReply) (most : ℕ) where
   -- what is read behind the step that stops is not looked at
-  stopped-bytes : (s : Running) (reads : List (List ℕ)) (piece : List ℕ) (rest : List (List ℕ)) → WentOn step most s reads
+  pub stopped-bytes : (s : Running) (reads : List (List ℕ)) (piece : List ℕ) (rest : List (List ℕ)) → WentOn step most s reads
       → (step_on step (after_reads step s reads) piece).goes_on ≡ false
       → step_by_step step s.progress s.output (reads ++ (piece ∷ rest)) ≡ written_by step s (reads ++ (piece ∷ []))
   stopped-bytes s [] piece rest h e =

@@ -1,54 +1,33 @@
 -- A program's turns: what one leaves, and the steps of all that were taken.
 use Prim.Native.Nat.{ℕ, ◌≤◌}
 use mathlib.Core.Path.{◌≡◌, refl, sym, ap, ◌∙◌}
-use mathlib.Core.Logic.{⊎_elim}
-use mathlib.Core.Bool.{Bool, true, false}
+use mathlib.Core.Bool.{true}
 use mathlib.Core.List.{List, [], ◌∷◌, ◌++◌}
 use lib.ListN.{length, take, length-take}
 use native.Mathlib.Omega.{arith}
-use types.Run.{OneOf}
 use Rattle.steps.specs.declared.Progress.{Progress}
-use Rattle.steps.specs.declared.Step.{Step}
 use Rattle.steps.specs.Steps.{ProgressView, beginning, StepReply}
 use Rattle.steps.specs.Files.{Running, started_on, step_on, after_step}
-use Rattle.steps.specs.Promises.{progress_view_of, Steps}
+use Rattle.steps.specs.Promises.{progress_view_of}
 use Rattle.programs.specs.declared.Going.{Going}
-use Rattle.programs.specs.contracts.Going.{the_type}
-use denote.Enum.Declared.{tag_of}
 use Rattle.programs.specs.declared.Going.TheVariants.{On, Stopped, NotRead, NotWritten}
 use Rattle.programs.specs.declared.Program.{Program}
-use Rattle.programs.specs.declared.Reading.{Reading}
-use Rattle.programs.specs.declared.Reading.TheVariants.{Bytes}
 use Rattle.programs.specs.Programs.{after_reads, WentOn, Ends, Runs}
-use Rattle.programs.specs.Inner.{step_of, ReadWithin, going_on, Turns}
+use Rattle.programs.specs.Inner.{step_of, Turns}
 
 -- a program between two turns
 abbrev pub running : Progress → List ℕ → Running
 running p out = record { progress = progress_view_of p; output = out }
 
--- ---- a turn
-
-pub read-within : (most n : ℕ) (r : Reading) → r ≡ Bytes n → ReadWithin most r → n ≤ most
-read-within most n r e h = rw e at h
-
-pub turn-done : (p : Program) (q : Progress) (n : ℕ) (read out after : List ℕ) (s : Step) (w : Bool)
-    → Steps (step_of p (progress_view_of q) (take n read) out) q out after s → Turns p read (running q out) (going_on s.goes_on w) (running s.progress after)
-turn-done p q n read out after s w h = go s.goes_on w refl
-  where
-    go : (g w : Bool) → s.goes_on ≡ g → Turns p read (running q out) (going_on g w) (running s.progress after)
-    go g false e = tt
-    go true true e = (n, sym h.goes ∙ e, rw (h.keeps, h.output) refl)
-    go false true e = (n, sym h.goes ∙ e)
-
 -- ---- all turns
 
 module _ (step : ProgressView → List ℕ → List ℕ → StepReply) where
-  after_more : (s : Running) (reads : List (List ℕ)) (piece : List ℕ)
+  pub after_more : (s : Running) (reads : List (List ℕ)) (piece : List ℕ)
       → after_reads step s (reads ++ (piece ∷ [])) ≡ after_step step (after_reads step s reads) piece
   after_more s [] piece = refl
   after_more s (r ∷ reads) piece = after_more (after_step step s r) reads piece
 
-  went-more : (most : ℕ) (s : Running) (reads : List (List ℕ)) (piece : List ℕ) → WentOn step most s reads → length piece ≤ most
+  pub went-more : (most : ℕ) (s : Running) (reads : List (List ℕ)) (piece : List ℕ) → WentOn step most s reads → length piece ≤ most
       → (step_on step (after_reads step s reads) piece).goes_on ≡ true → WentOn step most s (reads ++ (piece ∷ []))
   went-more most s [] piece h short e = (short, e, tt)
   went-more most s (r ∷ reads) piece h short e = (h.0, h.1, went-more most (after_step step s r) reads piece h.2 short e)
@@ -76,12 +55,12 @@ module _ (p : Program) (most : ℕ) (out : List ℕ) where
         is = turn.2 ∙ ap (λ (s : Running). after_step (step_of p) s piece) h.is ∙ sym (after_more (step_of p) (started_on out) h.reads piece);
       }
 
-  pub run-done : (s t : Running) (g : Going) (read : List ℕ) → length read ≡ most → OneOf (1 ∷ 2 ∷ 3 ∷ []) (tag_of the_type g) → Reached s → Turns p read s g t
+  pub run-done : (s t : Running) (g : Going) (read : List ℕ) → length read ≡ most → (g ≡ On → ⊥) → Reached s → Turns p read s g t
       → Runs (step_of p) most out (record { going = g; number = s.progress.number })
   run-done s t g read full off h turn = record { reads = h.reads; went = h.went; ends = go g off turn; at = ap (λ (s : Running). s.progress.number) h.is }
     where
-      go : (g : Going) → OneOf (1 ∷ 2 ∷ 3 ∷ []) (tag_of the_type g) → Turns p read s g t → Ends (step_of p) most (after_reads (step_of p) (started_on out) h.reads) g
-      go On off turn = ⊎_elim (λ e. omega (arith, e)) (⊎_elim (λ e. omega (arith, e)) (λ e. omega (arith, e))) off
+      go : (g : Going) → (g ≡ On → ⊥) → Turns p read s g t → Ends (step_of p) most (after_reads (step_of p) (started_on out) h.reads) g
+      go On off turn = absurd (off refl)
       go Stopped off turn = (take turn.0 read, part-within turn.0 most read full, rw h.is at turn.1)
       go NotRead off turn = tt
       go NotWritten off turn = tt

@@ -1,2 +1,3 @@
 pub mod Programs
 pub mod Inner
+pub mod Streams

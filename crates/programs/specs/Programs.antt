@@ -18,7 +18,7 @@ module _ (step : ProgressView → List ℕ → List ℕ → StepReply) (most : �
   WentOn s (piece ∷ rest) = (length piece ≤ most) × ((step_on step s piece).goes_on ≡ true) × WentOn (after_step step s piece) rest
 
   -- how it says that it ended: a step stops it ("stop at a refusal", or the records have ended), of which the step is shown; or a read or a write
-  -- failed, of which nothing can be shown, since the C library's contracts do not say what is read and written
+  -- failed, of which nothing is shown here: what was written then is said in Streams, where a reader and a writer say what they hold
   abbrev pub Ends : Running → Going → Type 0
   Ends s On = ⊥
   Ends s Stopped = (piece : List ℕ) × (length piece ≤ most) × ((step_on step s piece).goes_on ≡ false)

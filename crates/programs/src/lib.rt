@@ -1,16 +1,18 @@
-// Document 01's two programs: records are read one at a time from standard input, a step is taken on each, and its lines go to standard output.
+// Document 01's two programs: records are read one at a time, from standard input, a step is taken on each, and its lines are written, to standard output.
 #![tactic(auto)]
 
-ghost use Rattle.std.specs.Prelude.{◌≡◌, length, replicate};
+ghost use Rattle.std.specs.Prelude.{◌≡◌, Bool, length, replicate};
 ghost use Rattle.record.specs.Record.{record_length};
 ghost use Rattle.steps.specs.Steps.{page_step, listing_step};
-ghost use Rattle.steps.specs.Files.{page_room, listing_room};
+ghost use Rattle.steps.specs.Files.{page_room, listing_room, page_of, listing_of};
 ghost use Rattle.steps.specs.Promises.{progress_view_of, Steps};
 ghost use Rattle.programs.specs.Programs.{Runs};
 ghost use Rattle.programs.specs.Inner.{step_of, ReadWithin, going_on, Turns};
+ghost use Rattle.programs.specs.Streams.{TakesRead, Adds, TurnsOn, RunsOn, WhereKnown, Draws, line_of, Says};
 
-use libc::{STDERR_FILENO, STDIN_FILENO, STDOUT_FILENO};
+use itoa::Buffer;
 use record::RECORD;
+use std::io::{Read, Write};
 use steps::{Progress, Step};
 
 // The outputs' lengths: no record's lines need more.
@@ -56,22 +58,34 @@ struct Turn {
 }
 
 // Reads a record: until the bytes are full, the input ends or a read fails.
-fn read_record(bytes: &mut [u8]) -> Reading
-    ensures { (length bytes.new ≡ length bytes.old) × ReadWithin (length bytes.old) result }
+fn read_record<I: Read>(input: &mut I, bytes: &mut [u8]) -> Reading
+    ensures within { (length bytes.new ≡ length bytes.old) × ReadWithin (length bytes.old) result }
+    ensures takes { TakesRead (length bytes.old) (I.remaining input.old) (I.remaining input.new) bytes.new result }
 {
     let mut at = 0;
     while at < bytes.len() {
-        let got = libc::read(STDIN_FILENO, &mut bytes[at..]);
-        if got < 0 {
-            return Reading::Failed;
+        match input.read(&mut bytes[at..]) {
+            Ok(0) => return Reading::Bytes(at),
+            Ok(count) => at += count,
+            Err(_) => return Reading::Failed,
         }
-        let count = io::count(got, &bytes[at..]);
-        if count == 0 {
-            return Reading::Bytes(at);
-        }
-        at += count;
     }
     Reading::Bytes(at)
+}
+
+// Writes all of the bytes, and says whether it did: it stops at a write that fails or takes nothing.
+fn write_whole<O: Write>(output: &mut O, bytes: &[u8]) -> bool
+    ensures { Adds (O.contents output.old) (O.contents output.new) bytes.now result }
+{
+    let mut at = 0;
+    while at < bytes.len() {
+        match output.write(&bytes[at..]) {
+            Ok(0) => return false,
+            Ok(count) => at += count,
+            Err(_) => return false,
+        }
+    }
+    true
 }
 
 // The program's step on the bytes that were read.
@@ -96,12 +110,23 @@ fn going_on(goes_on: bool, is_written: bool) -> Going
 }
 
 // A record's turn: it is read, a step is taken, its lines are written.
-fn take_turn(program: Program, bytes: &mut [u8], out: &mut [u8], progress: Progress) -> Turn
-    ensures { (length bytes.new ≡ length bytes.old)
+fn take_turn<I: Read, O: Write>(
+    input: &mut I,
+    output: &mut O,
+    program: Program,
+    bytes: &mut [u8],
+    out: &mut [u8],
+    progress: Progress,
+) -> Turn
+    ensures turns { (length bytes.new ≡ length bytes.old)
         × Turns program bytes.new (record { progress = progress_view_of progress; output = out.old }) result.going
         (record { progress = progress_view_of result.progress; output = out.new }) }
+    ensures lines { TurnsOn (step_of program) (length bytes.old)
+        (record { progress = progress_view_of progress; output = out.old }) result.going
+        (record { progress = progress_view_of result.progress; output = out.new })
+        (I.remaining input.old) (I.remaining input.new) (O.contents output.old) (O.contents output.new) }
 {
-    let reading = read_record(bytes);
+    let reading = read_record(input, bytes);
     let Reading::Bytes(count) = reading else {
         return Turn {
             going: Going::NotRead,
@@ -110,7 +135,7 @@ fn take_turn(program: Program, bytes: &mut [u8], out: &mut [u8], progress: Progr
     };
     let step = take_step(program, out, &bytes[0..count], progress);
     let length = step.length;
-    let is_written = io::write_all(STDOUT_FILENO, &out[0..length]);
+    let is_written = write_whole(output, &out[0..length]);
     let kept = step.progress;
     Turn {
         going: going_on(step.goes_on, is_written),
@@ -119,13 +144,22 @@ fn take_turn(program: Program, bytes: &mut [u8], out: &mut [u8], progress: Progr
 }
 
 // Runs a program. A proved loop has to end, so this one counts its turns down; behind the last one, which no run reaches, nothing more is read.
-fn run_all(program: Program, bytes: &mut [u8], out: &mut [u8]) -> Run
-    ensures { Runs (step_of program) (length bytes.old) out.old result }
+fn run_all<I: Read, O: Write>(
+    input: &mut I,
+    output: &mut O,
+    program: Program,
+    bytes: &mut [u8],
+    out: &mut [u8],
+) -> Run
+    ensures runs { Runs (step_of program) (length bytes.old) out.old result }
+    ensures lines { length bytes.old ≡ record_length
+        → WhereKnown (λ file before after. RunsOn (step_of program) record_length out.old file before after (I.remaining input.new) result)
+        (I.remaining input.old) (O.contents output.old) (O.contents output.new) }
 {
     let mut progress = steps::begin();
     let mut turns = u64::MAX;
     while turns > 0 {
-        let turn = take_turn(program, bytes, out, progress);
+        let turn = take_turn(input, output, program, bytes, out, progress);
         let going = turn.going;
         let Going::On = going else {
             return Run {
@@ -143,42 +177,63 @@ fn run_all(program: Program, bytes: &mut [u8], out: &mut [u8]) -> Run
     }
 }
 
-// Writes words and a number, a line of its own, on standard error.
-fn say(words: &[u8], number: u64) {
-    io::write_all(STDERR_FILENO, words);
-    io::print_decimal(STDERR_FILENO, number);
-    io::write_all(STDERR_FILENO, b"\n");
+// Writes words and a number, a line of its own, and says whether it did. Where a write fails, nothing is written behind it.
+fn say<E: Write>(errors: &mut E, words: &[u8], number: u64) -> bool
+    ensures { Adds (E.contents errors.old) (E.contents errors.new) (line_of words.now number) result }
+{
+    let mut digits = Buffer::new();
+    let digits = digits.format(number).as_bytes();
+    if !write_whole(errors, words) {
+        return false;
+    }
+    if !write_whole(errors, digits) {
+        return false;
+    }
+    write_whole(errors, b"\n")
 }
 
-// Says on standard error where a read or a write failed.
-fn say_failure(run: Run) {
-    let going = run.going;
-    match going {
-        Going::On => (),
-        Going::Stopped => (),
-        Going::NotRead => say(b"cannot read record ", run.number),
-        Going::NotWritten => say(b"cannot write record ", run.number),
+// Says where a read or a write failed, and whether it said all of it.
+fn say_failure<E: Write>(errors: &mut E, run: Run) -> bool
+    ensures { Says run.going run.number (E.contents errors.old) (E.contents errors.new) result }
+{
+    match run.going {
+        Going::On => true,
+        Going::Stopped => true,
+        Going::NotRead => say(errors, b"cannot read record ", run.number),
+        Going::NotWritten => say(errors, b"cannot write record ", run.number),
     }
 }
 
-// The page program: draws the records on standard input as text.
-pub fn page() -> Run
-    ensures { Runs page_step record_length (replicate page_room 0) result }
+// The page program: draws the records that it reads as text. Its `main` lends it standard input, standard output and standard error.
+pub fn page<I: Read, O: Write, E: Write>(input: &mut I, output: &mut O, errors: &mut E) -> Run
+    ensures runs { Runs page_step record_length (replicate page_room 0) result }
+    ensures lines { WhereKnown (λ file before after. RunsOn page_step record_length (replicate page_room 0) file before after
+        (I.remaining input.new) result)
+        (I.remaining input.old) (O.contents output.old) (O.contents output.new) }
+    ensures whole { WhereKnown (Draws page_of result.going)
+        (I.remaining input.old) (O.contents output.old) (O.contents output.new) }
+    ensures said { (is_said : Bool) × Says result.going result.number (E.contents errors.old) (E.contents errors.new) is_said }
 {
     let mut bytes = [0u8; RECORD];
     let mut out = [0u8; PAGE_ROOM];
-    let run = run_all(Program::Page, &mut bytes, &mut out);
-    say_failure(run);
+    let run = run_all(input, output, Program::Page, &mut bytes, &mut out);
+    say_failure(errors, run);
     run
 }
 
-// The listing program: lists the prefix lines of the records on standard input.
-pub fn listing() -> Run
-    ensures { Runs listing_step record_length (replicate listing_room 0) result }
+// The listing program: lists the prefix lines of the records that it reads. Its `main` lends it the three streams too.
+pub fn listing<I: Read, O: Write, E: Write>(input: &mut I, output: &mut O, errors: &mut E) -> Run
+    ensures runs { Runs listing_step record_length (replicate listing_room 0) result }
+    ensures lines { WhereKnown (λ file before after. RunsOn listing_step record_length (replicate listing_room 0) file before after
+        (I.remaining input.new) result)
+        (I.remaining input.old) (O.contents output.old) (O.contents output.new) }
+    ensures whole { WhereKnown (Draws listing_of result.going)
+        (I.remaining input.old) (O.contents output.old) (O.contents output.new) }
+    ensures said { (is_said : Bool) × Says result.going result.number (E.contents errors.old) (E.contents errors.new) is_said }
 {
     let mut bytes = [0u8; RECORD];
     let mut out = [0u8; LISTING_ROOM];
-    let run = run_all(Program::Listing, &mut bytes, &mut out);
-    say_failure(run);
+    let run = run_all(input, output, Program::Listing, &mut bytes, &mut out);
+    say_failure(errors, run);
     run
 }

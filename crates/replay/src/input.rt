@@ -1,4 +1,5 @@
 // The stream's bytes: numbers at a place, commands, and the buffer that they are read into.
+use std::io::Read;
 
 // The bytes of a command's letter and payload length.
 pub(crate) const HEADER: usize = 3;
@@ -93,10 +94,15 @@ pub(crate) fn keep(bytes: &mut [u8], from: usize, to: usize) -> usize {
     kept
 }
 
-// Reads into the bytes behind the first `kept`, and gives the number of bytes that are then there.
-pub(crate) fn fill(file: i32, bytes: &mut [u8], kept: usize) -> usize {
-    if bytes.len() <= kept {
-        return kept;
+// Reads into the bytes behind the first `kept`, until they are full, the input ends or a read fails, and gives the number of bytes that are then there.
+pub(crate) fn fill<I: Read>(input: &mut I, bytes: &mut [u8], kept: usize) -> usize {
+    let mut at = kept;
+    while at < bytes.len() {
+        match input.read(&mut bytes[at..]) {
+            Ok(0) => return at,
+            Ok(count) => at += count,
+            Err(_) => return at,
+        }
     }
-    kept + io::read_full(file, &mut bytes[kept..])
+    at
 }

@@ -12,10 +12,10 @@ mod shapes;
 mod words;
 
 use input::{Bytes, HEADER};
-use libc::STDIN_FILENO;
 use page::Page;
 use printer::{Buffer, Printer};
 use run::State;
+use std::io::{Stdin, Stdout};
 
 // What is kept from command to command: the state, the printer, and where the bytes not yet answered begin and end.
 #[derive(Clone, Copy)]
@@ -72,13 +72,14 @@ fn answer_all(bytes: &[u8], page: &mut Page, out: &mut Buffer, progress: Progres
 
 // Reads as much as there is room for and answers it. The printer is closed where the stream ends.
 fn answer_more(
+    mut stdin: Stdin,
     bytes: &mut Bytes,
     page: &mut Page,
     out: &mut Buffer,
     progress: Progress,
 ) -> Progress {
     let kept = input::keep(bytes, progress.at, progress.end);
-    let end = input::fill(STDIN_FILENO, bytes, kept);
+    let end = input::fill(&mut stdin, bytes, kept);
     let mut next = progress;
     next.end = end;
     if end <= kept {
@@ -91,9 +92,15 @@ fn answer_more(
 }
 
 // Answers the stream. A proved loop has to end, so this one counts its turns down, from a number that no run uses up.
-fn answer_stream(bytes: &mut Bytes, page: &mut Page, out: &mut Buffer) {
+fn answer_stream(
+    stdin: Stdin,
+    stdout: Stdout,
+    bytes: &mut Bytes,
+    page: &mut Page,
+    out: &mut Buffer,
+) {
     let state = State::new();
-    let printer = Printer::new();
+    let printer = Printer::new(stdout);
     let mut progress = Progress {
         state,
         printer,
@@ -102,15 +109,15 @@ fn answer_stream(bytes: &mut Bytes, page: &mut Page, out: &mut Buffer) {
     };
     let mut turns = u64::MAX;
     while turns > 0 && progress.printer.open {
-        progress = answer_more(bytes, page, out, progress);
+        progress = answer_more(stdin, bytes, page, out, progress);
         turns -= 1;
     }
 }
 
 // Lends the buffers.
-fn main() {
+fn main(rt: HostRuntime) {
     let mut bytes = [0u8; input::ROOM];
     let mut page = [0u8; page::ROOM];
     let mut out = [0u8; printer::ROOM];
-    answer_stream(&mut bytes, &mut page, &mut out);
+    answer_stream(rt.stdin(), rt.stdout(), &mut bytes, &mut page, &mut out);
 }

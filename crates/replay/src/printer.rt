@@ -1,6 +1,7 @@
 // What is printed: bytes collected in a buffer that the caller lends, and written to standard output when it is full.
 use crate::input::after;
-use libc::STDOUT_FILENO;
+use itoa::Buffer as Digits;
+use std::io::{Stdout, Write};
 
 // The buffer's length.
 pub(crate) const ROOM: usize = 65536;
@@ -8,49 +9,57 @@ pub(crate) const ROOM: usize = 65536;
 // The buffer.
 pub(crate) type Buffer = [u8; ROOM];
 
-// How many bytes wait in the buffer, and whether more can be printed: not so after a write that failed, or the last.
+// Where it prints, how many bytes wait in the buffer, and whether more can be printed: not so after a write that failed, or the last.
 #[derive(Clone, Copy)]
 pub(crate) struct Printer {
+    to: Stdout,
     pub(crate) used: usize,
     pub(crate) open: bool,
 }
 
 impl Printer {
     // Nothing waits.
-    pub(crate) fn new() -> Printer {
+    pub(crate) fn new(to: Stdout) -> Printer {
         Printer {
+            to,
             used: 0,
             open: true,
         }
     }
 }
 
+// Nothing waits, and nothing more is printed where a write failed.
+fn written(printer: Printer, open: bool) -> Printer {
+    Printer {
+        to: printer.to,
+        used: 0,
+        open,
+    }
+}
+
+// Writes a text, and says whether all of it was written.
+fn write(printer: Printer, text: &[u8]) -> bool {
+    let mut to = printer.to;
+    to.write_all(text).is_ok()
+}
+
 // Writes what waits.
 fn flush(out: &[u8], printer: Printer) -> Printer {
     let used = printer.used;
     if out.len() < used {
-        return Printer {
-            used: 0,
-            open: false,
-        };
+        return written(printer, false);
     }
     if !printer.open {
-        return Printer {
-            used: 0,
-            open: false,
-        };
+        return written(printer, false);
     }
-    let open = io::write_all(STDOUT_FILENO, &out[0..used]);
-    Printer { used: 0, open }
+    let open = write(printer, &out[0..used]);
+    written(printer, open)
 }
 
 // Writes what waits, for the last time.
 pub(crate) fn close(out: &[u8], printer: Printer) -> Printer {
     flush(out, printer);
-    Printer {
-        used: 0,
-        open: false,
-    }
+    written(printer, false)
 }
 
 // Puts a text into the buffer at a place, if it fits there, and says whether it did.
@@ -74,6 +83,7 @@ fn put_apart(out: &mut Buffer, printer: Printer, text: &[u8]) -> Printer {
     let empty = flush(out, printer);
     if copy(out, 0, text) {
         return Printer {
+            to: empty.to,
             used: text.len(),
             open: empty.open,
         };
@@ -81,8 +91,8 @@ fn put_apart(out: &mut Buffer, printer: Printer, text: &[u8]) -> Printer {
     if !empty.open {
         return empty;
     }
-    let open = io::write_all(STDOUT_FILENO, text);
-    Printer { used: 0, open }
+    let open = write(empty, text);
+    written(empty, open)
 }
 
 // Prints a text.
@@ -90,6 +100,7 @@ pub(crate) fn put(out: &mut Buffer, printer: Printer, text: &[u8]) -> Printer {
     let used = printer.used;
     if copy(out, used, text) {
         return Printer {
+            to: printer.to,
             used: after(used, text.len()),
             open: printer.open,
         };
@@ -99,9 +110,8 @@ pub(crate) fn put(out: &mut Buffer, printer: Printer, text: &[u8]) -> Printer {
 
 // Prints a number in decimal.
 pub(crate) fn put_number(out: &mut Buffer, printer: Printer, number: u64) -> Printer {
-    let mut digits = [0u8; 20];
-    let length = io::decimal(number, &mut digits);
-    put(out, printer, &digits[..length])
+    let mut digits = Digits::new();
+    put(out, printer, digits.format(number).as_bytes())
 }
 
 // Prints a name and a number behind it.
