@@ -244,8 +244,7 @@ fn lent_row(shaper: Shaper, node: u32, entries: Entries) -> RowAnswer
 
 // The text call on each record, with the lent message in the place of the record's own: each text behind the one before it if they are
 // kept, else each at the output's beginning. Ends at the first row that is refused, and gives the count of those that were not.
-#[unsafe(no_mangle)]
-pub extern "C" fn whole_history_text(
+pub fn whole_history_text(
     records: &[u8],
     message: &[u8],
     renderer: u8,
@@ -289,8 +288,7 @@ pub extern "C" fn whole_history_text(
 
 // The row call on each record: each shape behind the one before it if they are kept, else the node's cell alone at the output's beginning.
 // Ends at the first row that is refused or that there is no room for, and gives the count of those before it.
-#[unsafe(no_mangle)]
-pub extern "C" fn whole_history_shapes(records: &[u8], kept: bool, out: &mut [u8]) -> usize
+pub fn whole_history_shapes(records: &[u8], kept: bool, out: &mut [u8]) -> usize
     ensures { whole_shapes records.now kept out.old ≡ record { rows = result; output = out.new } }
 {
     let begun = steps::begin();
@@ -329,8 +327,7 @@ pub extern "C" fn whole_history_shapes(records: &[u8], kept: bool, out: &mut [u8
 // The preview of each record's row, on a shaper made of what the preview before it gave: its bytes behind those before them if they are
 // kept, else at the output's beginning. Ends at the first row that is refused or that there is no room for, and gives the count of those
 // before it.
-#[unsafe(no_mangle)]
-pub extern "C" fn whole_history_previews(records: &[u8], kept: bool, out: &mut [u8]) -> usize
+pub fn whole_history_previews(records: &[u8], kept: bool, out: &mut [u8]) -> usize
     ensures { whole_previews records.now kept out.old ≡ record { rows = result; output = out.new } }
 {
     let begun = steps::begin();
@@ -370,13 +367,7 @@ pub extern "C" fn whole_history_previews(records: &[u8], kept: bool, out: &mut [
 
 // The row call on each record and the renderer call on its shape: each row's lines behind those before them if they are kept, else each
 // at the output's beginning. Ends at the first row that either call refuses, and gives the count of those before it.
-#[unsafe(no_mangle)]
-pub extern "C" fn whole_history_lines(
-    records: &[u8],
-    renderer: u8,
-    kept: bool,
-    out: &mut [u8],
-) -> usize
+pub fn whole_history_lines(records: &[u8], renderer: u8, kept: bool, out: &mut [u8]) -> usize
     ensures { whole_lines records.now renderer kept out.old ≡ record { rows = result; output = out.new } }
 {
     let drawing = renderer_of(renderer);
@@ -407,8 +398,7 @@ pub extern "C" fn whole_history_lines(
 }
 
 // What `whole_history_shapes` gives, by the public call.
-#[unsafe(no_mangle)]
-pub extern "C" fn whole_history_lent_shapes(records: &[u8], kept: bool, out: &mut [u8]) -> usize
+pub fn whole_history_lent_shapes(records: &[u8], kept: bool, out: &mut [u8]) -> usize
     ensures { whole_shapes records.now kept out.old ≡ record { rows = result; output = out.new } }
 {
     let begun = steps::begin();

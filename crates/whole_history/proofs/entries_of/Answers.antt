@@ -11,11 +11,11 @@ use borrow.Author.Rules.{rules}
 use Rattle.whole_history.proofs.entries_of.Goals as goal
 
 pub loop-i-preserved : goal.loop-i-preserved
-loop-i-preserved c = 
+loop-i-preserved c =
     let l = c.loop-i in
     (search rules, search rules, search rules, search rules, list-next _ l.i l.invariant.4 c.ancestor-ancestor.ensures c.id_at.ensures (omega arith))
 
 pub returns : goal.returns
-returns c = 
+returns c =
     let l = c.loop-i in
     entries-done _ _ l.i l.invariant.4 (omega arith) l.invariant.3

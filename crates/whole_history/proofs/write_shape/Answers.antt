@@ -11,12 +11,12 @@ use borrow.Author.Rules.{rules}
 use Rattle.whole_history.proofs.write_shape.Goals as goal
 
 pub returns-then-out-size : goal.returns-then-out-size
-returns-then-out-size c = 
+returns-then-out-size c =
     let long : length c.args.shape.cells ≡ column_limit = search (rules, cells-long) in
     no_room c.args.shape long _ c.lesser-width.ensures _ c.if-out-size.true
 
 pub loop-i-preserved : goal.loop-i-preserved
-loop-i-preserved c = 
+loop-i-preserved c =
     let l = c.loop-i in
     let back = c.write_bytes-in-loop-i in (
       search rules,
@@ -29,6 +29,6 @@ loop-i-preserved c =
     )
 
 pub returns : goal.returns
-returns c = 
+returns c =
     let l = c.loop-i in
     shape-done _ l.invariant.5 _ l.invariant.1 l.i _ c.head_bytes-head.ensures c.write_bytes.ensures l.invariant.6 (omega arith) c.if-out-size.false
