@@ -4,11 +4,11 @@ use Rattle.render.specs.declared.render.Ancestor.TheVariants.{Ancestor}
 use Rattle.render.specs.declared.render.Entry.{Entry}
 use Rattle.render.specs.declared.render.Entries.{Entries}
 use Rattle.render.specs.Entries.{no_entries, pushed}
-use Rattle.lineage.proofs.CopyLaws.{none, one_more, copied-all}
+use Rattle.lineage.proofs.CopyLaws.{one_more, copied-all}
 use Rattle.lineage.proofs.copy_entries.Goals as goal
 
 pub loop-i-preserved : goal.loop-i-preserved
-loop-i-preserved c = 
+loop-i-preserved c =
     let l = c.loop-i in
     let ys = c.args.list.now in
     let h : l.i < length ys = omega arith in

@@ -1,10 +1,9 @@
 -- Writes a number in decimal, if it has at most so many digits, and gives their count.
-use mathlib.Core.Path.{refl, ap, ◌∙◌}
+use mathlib.Core.Path.{ap, ◌∙◌}
 use mathlib.Core.List.{[], ◌∷◌, ◌++◌}
 use native.Mathlib.Omega.{arith}
-use lib.ListN.{length, length-append}
-use Prim.Native.Nat.{ℕ, ◌<◌, ◌+◌, ◌-◌, ◌/◌, ◌%◌}
-use borrow.Author.Rules.{rules}
+use lib.ListN.{length-append}
+use Prim.Native.Nat.{ℕ, ◌+◌, ◌-◌, ◌/◌, ◌%◌}
 use Rattle.slices.specs.Joins.{over}
 use Rattle.slices.proofs.OverLaws.{over-one}
 use Rattle.steps.specs.Steps.{decimal_in}

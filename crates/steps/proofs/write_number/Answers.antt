@@ -2,9 +2,8 @@
 use native.Mathlib.Omega.{arith}
 use Prim.Native.Nat.{◌≤◌}
 use lib.ListN.{length, length-append}
-use Rattle.slices.proofs.OverLaws.{wrote_count, wrote, part_room, part-written}
+use Rattle.slices.proofs.OverLaws.{wrote_count, wrote, part-written}
 use Rattle.steps.specs.Steps.{decimal_in, most_digits}
-use borrow.Author.Rules.{rules}
 use Rattle.steps.proofs.write_number.Goals as goal
 
 pub returns : goal.returns

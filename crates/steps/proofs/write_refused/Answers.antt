@@ -1,8 +1,7 @@
 -- Writes the line that says what was refused, if there is room for it, and gives the count of its bytes.
 use mathlib.Core.Path.{refl}
 use native.Mathlib.Omega.{arith}
-use Rattle.steps.proofs.LineBytes.{no_line, line-length, line-written, line_same}
-use borrow.Author.Rules.{rules}
+use Rattle.steps.proofs.LineBytes.{no_line, line-length, line-written}
 use Rattle.steps.proofs.write_refused.Goals as goal
 
 pub returns-then-out-lt-LINE_ROOM : goal.returns-then-out-lt-LINE_ROOM

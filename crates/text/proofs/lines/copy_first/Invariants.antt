@@ -1,11 +1,8 @@
 -- Copies the first bytes of the output to a later place of it.
 use mathlib.Core.Path.{◌≡◌}
 use Prim.Native.Nat.{◌+◌, ◌≤◌, ◌-◌}
-use native.Mathlib.Omega.{arith}
 use lib.ListN.{length}
-use lib.Seq.{paste, paste-zero}
-use borrow.Author.Rules.{rules}
-use Rattle.text.proofs.TextLineLaws.{copy-next, copy-end}
+use lib.Seq.{paste}
 use Rattle.text.proofs.lines.copy_first.Given as goal
 
 abbrev pub invariant-loop-i : goal.invariant-loop-i

@@ -1,13 +1,8 @@
 -- Writes a prefix line once more, from `at` on, with the next message line: its first bytes are those of the output.
-use mathlib.Core.Path.{◌≡◌}
-use Prim.Native.Nat.{◌+◌, ◌-◌, ◌≤◌}
+use Prim.Native.Nat.{◌+◌}
 use native.Mathlib.Omega.{arith}
-use lib.ListN.{length}
-use borrow.Author.Rules.{rules}
 use Rattle.slices.proofs.OverLaws.{part_room}
-use Rattle.message.specs.Message.{trim_end}
-use Rattle.text.specs.Inner.{behind_finished}
-use Rattle.text.proofs.TextLineLaws.{again-room, more-there, again-none, again-some}
+use Rattle.text.proofs.TextLineLaws.{again-room, again-none, again-some}
 use Rattle.text.proofs.lines.repeat_text_line.Goals as goal
 
 -- the whole line fits

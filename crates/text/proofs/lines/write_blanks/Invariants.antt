@@ -1,12 +1,9 @@
 -- Writes blanks.
-use mathlib.Core.Path.{◌≡◌, refl}
+use mathlib.Core.Path.{◌≡◌}
 use Prim.Native.Nat.{◌≤◌, ◌-◌}
-use native.Mathlib.Omega.{arith}
 use lib.ListN.{length, replicate}
-use borrow.Author.Rules.{rules}
 use Rattle.slices.specs.Characters.{blank}
 use Rattle.slices.proofs.OverLaws.{so_far}
-use Rattle.text.proofs.TextLineLaws.{blank-next, blank-end}
 use Rattle.text.proofs.lines.write_blanks.Given as goal
 
 abbrev pub invariant-loop-i : goal.invariant-loop-i

@@ -1,12 +1,9 @@
 -- Writes a prefix line with a message line (`push_line_with_message`): one of blanks, and one of more.
-use mathlib.Core.List.{List}
-use Prim.Native.Nat.{ℕ, ◌+◌, ◌-◌, ◌<◌, ◌≤◌}
+use Prim.Native.Nat.{◌+◌, ◌-◌, ◌≤◌}
 use mathlib.Core.Path.{◌≡◌}
 use native.Mathlib.Omega.{arith}
 use lib.ListN.{length, length-take}
-use borrow.Author.Rules.{rules}
 use Rattle.slices.proofs.OverLaws.{part_room}
-use Rattle.message.proofs.MessageLaws.{trim-length}
 use Rattle.glyphs.specs.Tables.{cells_text, first_cells}
 use Rattle.text.proofs.TextLineLaws.{none-room, none_done, some-room, some_end, some-done}
 use Rattle.text.proofs.lines.write_text_line.Goals as goal
