@@ -1,12 +1,6 @@
 -- `whole_history::entries_of` meets its contract. The loop's invariant: the array holds the first i entries, and none behind them.
-use Prim.Native.Nat.{◌≤◌, ◌-◌, min}
-use mathlib.Core.Path.{◌≡◌, refl}
 use native.Mathlib.Omega.{arith}
-use lib.ListN.{length}
-use Rattle.render.specs.Entries.{entry_limit}
-use Rattle.record.specs.Record.{record_length, parent_count}
-use Rattle.record.specs.Promises.{entries_with}
-use Rattle.whole_history.proofs.RecordReads.{first, list-next, entries-done}
+use Rattle.whole_history.proofs.RecordReads.{list-next, entries-done}
 use borrow.Author.Rules.{rules}
 use Rattle.whole_history.proofs.entries_of.Goals as goal
 

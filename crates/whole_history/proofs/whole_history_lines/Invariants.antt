@@ -1,12 +1,8 @@
 -- `whole_history::whole_history_lines` meets its contract. The loop's invariant: what is left to do from here gives the whole.
 use Prim.Native.Nat.{◌*◌, ◌-◌}
-use mathlib.Core.Path.{refl}
-use native.Mathlib.Omega.{arith}
-use borrow.Author.Rules.{rules}
 use lib.ListN.{length}
 use Rattle.record.specs.Record.{record_length}
-use Rattle.whole_history.proofs.RunLaws.{place_kept, place-left}
-use Rattle.whole_history.proofs.LinesTurn.{LinesLeft, lines-begin, lines_end, row-refused, lines-refused, lines_fit, lines-go}
+use Rattle.whole_history.proofs.LinesTurn.{LinesLeft}
 use Rattle.whole_history.proofs.whole_history_lines.Given as goal
 
 abbrev pub invariant-loop-rows : goal.invariant-loop-rows

@@ -1,12 +1,8 @@
 -- `whole_history::whole_history_text` meets its contract. The loop's invariant: what is left to do from here gives the whole.
 use Prim.Native.Nat.{◌*◌, ◌-◌}
-use mathlib.Core.Path.{refl}
-use native.Mathlib.Omega.{arith}
-use borrow.Author.Rules.{rules}
 use lib.ListN.{length}
 use Rattle.record.specs.Record.{record_length}
-use Rattle.whole_history.proofs.RunLaws.{place_kept, place-left}
-use Rattle.whole_history.proofs.TextTurn.{TextLeft, text-begins, text-ends, text-stops, text-fits, text-goes}
+use Rattle.whole_history.proofs.TextTurn.{TextLeft}
 use Rattle.whole_history.proofs.whole_history_text.Given as goal
 
 abbrev pub invariant-loop-rows : goal.invariant-loop-rows

@@ -1,12 +1,11 @@
 -- `whole_history::write_shape` meets its contract. The loop's invariant: the head and the first i cells are written.
-use Prim.Native.Nat.{◌+◌, ◌*◌, ◌≤◌, ◌-◌, min}
+use Prim.Native.Nat.{◌+◌, ◌*◌}
 use mathlib.Core.Path.{◌≡◌, ◌∙◌}
 use native.Mathlib.Omega.{arith}
 use lib.ListN.{length}
 use Rattle.column.specs.Columns.{column_limit}
-use Rattle.slices.specs.Joins.{over}
 use Rattle.slices.proofs.OverLaws.{part_length}
-use Rattle.whole_history.proofs.ShapeLaws.{cells-long, up_to, cells-none, cells-next, no_room, shape-done}
+use Rattle.whole_history.proofs.ShapeLaws.{cells-long, cells-next, no_room, shape-done}
 use borrow.Author.Rules.{rules}
 use Rattle.whole_history.proofs.write_shape.Goals as goal
 
