@@ -8,6 +8,8 @@ import sys
 IMPORT, PASSED_ON = (rf"^ *{before}use (?:[^{{\n]*\{{[^}}]*\}}.*|.*)$" for before in ("(?:ghost )?", "pub "))
 # where a comment begins, by the file's ending
 COMMENT = {"antt": r"--.*", "rt": r"//.*"}
+# traits of std, each with the methods whose calls use it
+METHODS = {"Read": {"read"}, "Write": {"write", "write_all"}}
 # the places of a crate's files; what rt makes beside them is none of ours
 PLACES = "crates/*/{}/**/*.{}"
 
@@ -26,8 +28,8 @@ def words(text, ending):
 
 
 def is_used(name, used):
-    """Whether a name is among the words used; an operator may stand there by its signs."""
-    return name in used or "◌" in name and used.issuperset(filter(None, name.split("◌")))
+    """Whether a name is among the words used; an operator may stand there by its signs, and a trait by a method of it."""
+    return name in used or not used.isdisjoint(METHODS.get(name, ())) or "◌" in name and used.issuperset(filter(None, name.split("◌")))
 
 
 def main():
