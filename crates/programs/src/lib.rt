@@ -1,4 +1,4 @@
-// Document 01's two programs: records are read one at a time, from standard input, a step is taken on each, and its lines are written, to standard output.
+// Document 01's two programs: records are read one at a time, a step is taken on each, and its lines are written. Their `main` gives the standard streams.
 #![tactic(auto)]
 
 ghost use Rattle.std.specs.Prelude.{◌≡◌, Bool, length, replicate};
