@@ -9,7 +9,7 @@ import time
 from command import ROOT, Failure, say
 
 # how long the first run takes on two cores
-MINUTES = 4
+MINUTES = 10
 
 CRATES = os.path.join(ROOT, "crates.txt")
 LOG = os.path.join(ROOT, "target", "draw.log")
