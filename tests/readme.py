@@ -3,7 +3,7 @@
 
 - README quotes the pages and the table of QUOTED as they are in examples/.
 - README's table of refusals is the one that tools/refusals.py prints.
-- That table has the refusals of document 01 (1 to 12), by the constants of the code, and of the later ones those that some code gives.
+- That table has the refusals of document 01 (1 to 12), by the variants of the code's `Refusal`, and of the later ones those that some code gives.
 - The paths that the documents name are there, oracle/README.md names every file of the Rust side, and the functions that docs/HOUSE.md names stand in their crates.
 - docs/HOUSE.md has the crates of crates.txt, in its table and in its drawing, each in a layer above those that it uses."""
 import glob
@@ -48,10 +48,9 @@ def refusal_table():
         yield "README.md: the table of refusals is not the one that `python3 tools/refusals.py` prints"
 
 
-def constants():
+def variants():
     """The number and the name of each refusal of the code."""
-    found = re.findall(r"(?m)^pub const (\w+): u8 = (\d+);", read_text(NUMBERS))
-    return {int(number): name for name, number in found if number != "0"}
+    return {int(number): name for name, number in re.findall(r"(?m)^    (\w+) = (\d+),$", read_text(NUMBERS))}
 
 
 def given():
@@ -63,9 +62,9 @@ def given():
 
 def refusal_numbers():
     """Refusals that the tool's table lacks, has too many, or names otherwise than the code."""
-    known, words = constants(), given()
+    known, words = variants(), given()
     wanted = {number: name for number, name in known.items() if number <= LAST or name in words}
-    told = {refusal.number: refusal.constant for refusal in REFUSALS}
+    told = {refusal.number: refusal.variant for refusal in REFUSALS}
     if len(told) != len(REFUSALS) or not set(range(1, LAST + 1)) <= set(known):
         yield f"a number stands twice in tools/refusals.py, or one of 1 to {LAST} not in {NUMBERS}"
     for number, name in sorted(wanted.items() ^ told.items()):

@@ -4,28 +4,28 @@ from typing import NamedTuple
 
 
 class Refusal(NamedTuple):
-    """A refusal number: its constant in the code, the calls that give it, what is wrong (said of a record: `its mark is ..`), what helps."""
+    """A refusal number: its variant in the code, the calls that give it, what is wrong (said of a record: `its mark is ..`), what helps."""
     number: int
-    constant: str
+    variant: str
     calls: str
     wrong: str
     helps: str
 
 
 REFUSALS = (
-    Refusal(1, "HEIGHT_ABOVE_LIMIT", "new shaper", "the minimum row height is above 16", "a height of 0 to 16"),
-    Refusal(2, "NO_COLUMN_LEFT", "reserving", "all 64 columns are taken, and none of them holds the id", "draw a row that frees a column first"),
-    Refusal(3, "TOO_MANY_ENTRIES", "row, preview, width, text", "it has more than eight parents", "at most eight parents in a row"),
-    Refusal(4, "NODE_LINE_TOO_WIDE", "row, preview, text", "its row would be wider than 64 columns", "a shorter history, or one with fewer branches open at once"),
-    Refusal(5, "MARK_OUTSIDE_SPAN", "renderer, text", "its mark is not a printable character", "a mark from ! to ~; a blank is none"),
-    Refusal(6, "MESSAGE_TOO_LONG", "text", "its message is longer than 512 bytes", "a shorter message"),
-    Refusal(7, "MESSAGE_BYTE_NOT_WRITABLE", "text", "its message has a character that is not plain ASCII, or a control character other than a line end",
+    Refusal(1, "HeightAboveLimit", "new shaper", "the minimum row height is above 16", "a height of 0 to 16"),
+    Refusal(2, "NoColumnLeft", "reserving", "all 64 columns are taken, and none of them holds the id", "draw a row that frees a column first"),
+    Refusal(3, "TooManyEntries", "row, preview, width, text", "it has more than eight parents", "at most eight parents in a row"),
+    Refusal(4, "NodeLineTooWide", "row, preview, text", "its row would be wider than 64 columns", "a shorter history, or one with fewer branches open at once"),
+    Refusal(5, "MarkOutsideSpan", "renderer, text", "its mark is not a printable character", "a mark from ! to ~; a blank is none"),
+    Refusal(6, "MessageTooLong", "text", "its message is longer than 512 bytes", "a shorter message"),
+    Refusal(7, "MessageByteNotWritable", "text", "its message has a character that is not plain ASCII, or a control character other than a line end",
             "plain ASCII, without tabs and accents"),
-    Refusal(8, "OUTPUT_SHORTER_THAN_LINES", "renderer, text", "its lines do not fit into the output", "a longer output"),
-    Refusal(9, "RECORD_CUT_SHORT", "record", "the file ends within it", "the whole file: it was cut short, and a record has 128 bytes"),
-    Refusal(10, "TOO_MANY_PARENTS", "record", "it names more than eight parents", "a record file; this one is damaged, or something else"),
-    Refusal(11, "KIND_ABOVE_LIMIT", "record", "a parent of it is of no known kind", "kind 0, 1 or 2 (anonymous, indirect, direct)"),
-    Refusal(12, "SHAPE_TOO_WIDE", "renderer", "the shape is wider than 64 cells", "a shape that the row call gave"),
+    Refusal(8, "OutputShorterThanLines", "renderer, text", "its lines do not fit into the output", "a longer output"),
+    Refusal(9, "RecordCutShort", "record", "the file ends within it", "the whole file: it was cut short, and a record has 128 bytes"),
+    Refusal(10, "TooManyParents", "record", "it names more than eight parents", "a record file; this one is damaged, or something else"),
+    Refusal(11, "KindAboveLimit", "record", "a parent of it is of no known kind", "kind 0, 1 or 2 (anonymous, indirect, direct)"),
+    Refusal(12, "ShapeTooWide", "renderer", "the shape is wider than 64 cells", "a shape that the row call gave"),
 )
 
 # what is wrong, by number

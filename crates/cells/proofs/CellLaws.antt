@@ -15,7 +15,6 @@ use Rattle.render.specs.declared.render.LinkLine.{LinkLine}
 use Rattle.render.specs.declared.render.Marks.{Marks}
 use Rattle.render.specs.declared.render.NodeLine.{NodeLine}
 use Rattle.render.specs.declared.render.PadLine.{PadLine}
-use Rattle.render.specs.declared.types.Cell.{Cell}
 use Rattle.render.specs.Lines.{blank_cell}
 use Rattle.render.specs.Link.{joined, strokes, unmarked, link_of}
 use Rattle.links.specs.declared.Drawn.{Drawn}
@@ -23,7 +22,7 @@ use Rattle.links.specs.declared.Drawn.TheVariants.{Nobody}
 use Rattle.links.specs.declared.AncestorColumnBounds.{AncestorColumnBounds}
 use Rattle.links.specs.declared.Swap.{Swap}
 use Rattle.links.specs.Links.{is_drawn, is_anonymously_drawn, is_at, passes_solid, passes_dashed, from_node, with_uprights}
-use Rattle.links.proofs.LinkLaws.{chosen, not_chosen, not-drawn, passing-is, Unreached}
+use Rattle.links.proofs.LinkLaws.{not-drawn, passing-is, Unreached}
 use Rattle.cells.specs.Cells.{pad_of, node_cell, link_cell, cell_of, cells_from}
 use Rattle.cells.specs.Inner.{plain_cell, passed_by, cell_with}
 
@@ -106,22 +105,6 @@ module _ (need : Bool) (b : AncestorColumnBounds) (w : Swap) (i : ℕ) (d : Draw
       let n : d ≡ Nobody = sym f ∙ u.nobody-draws in
       let s : old ≡ new = k n u.elsewhere u.kept in
       plain-is need b w i new ds u ∙ rw (n, s)
-
--- the two ways of the function
-module _ (need : Bool) (b : AncestorColumnBounds) (w : Swap) (i : ℕ) (d : Drawn) (old new : Column) (plain : Cell) (drawn gone : Bool) (r : Cell)
-    (e : drawn ≡ is_drawn d) (f : gone ≡ is_at w.given_up i) where
-  abbrev nothing : Bool
-  nothing = not (eqb i b.target) && (not (is_drawn d) && not (is_at w.given_up i))
-
-  abbrev passes : Cell
-  passes = passed_by plain (link_cell need (strokes (passes_solid b w i) (passes_dashed b w i)))
-
-  pub cell-passed : (own : Marks) (link : LinkLine) → (not (eqb i b.target) && (not drawn && not gone)) ≡ true → own ≡ strokes (passes_solid b w i) (passes_dashed b w i)
-      → link ≡ link_cell need own → r ≡ passed_by plain link → r ≡ cell_with need b w i d old new plain
-  cell-passed own link h o l k = chosen nothing passes (cell_of need b w i d old new) r (rw (← e, ← f) h) (k ∙ ap (passed_by plain) (l ∙ ap (link_cell need) o))
-
-  pub cell-ended : (not (eqb i b.target) && (not drawn && not gone)) ≡ false → r ≡ cell_of need b w i d old new → r ≡ cell_with need b w i d old new plain
-  cell-ended h k = not_chosen nothing passes (cell_of need b w i d old new) r (rw (← e, ← f) h) k
 
 -- the plain cells are of three kinds
 blank-plain : (need : Bool) → blank_cell ≡ plain_cell need Empty

@@ -7,33 +7,37 @@ ghost use Rattle.cells.specs.Cells.{beside_node, pad_of, node_cell, link_cell, c
 ghost use Rattle.cells.specs.Inner.{plain_cell, passed_by, cell_with};
 
 use column::Column;
-use links::{AncestorColumnBounds, Drawn, Swap, from_node, is_at, passing, with_uprights};
+use links::{AncestorColumnBounds, Drawn, Swap, from_node, passing, with_uprights};
 use render::{Cell, LinkLine, Marks, NodeLine, PadLine};
+
+// What a column shows, of what a Parent column shows, an Ancestor one and any other.
+pub fn shown<T: Copy>(column: Column, parent: T, ancestor: T, blank: T) -> T
+    ensures { result ≡ cond (is_parent column) parent (cond (is_ancestor column) ancestor blank) }
+{
+    match column {
+        Column::Parent(_) => parent,
+        Column::Ancestor(_) => ancestor,
+        _ => blank,
+    }
+}
 
 // What a column shows beside the node.
 fn column_to_node_line(column: Column) -> NodeLine
     ensures { result ≡ beside_node column }
 {
-    match column {
-        Column::Empty => NodeLine::Blank,
-        Column::Blocked => NodeLine::Blank,
-        Column::Reserved(_) => NodeLine::Blank,
-        Column::Ancestor(_) => NodeLine::Ancestor,
-        Column::Parent(_) => NodeLine::Parent,
-    }
+    shown(
+        column,
+        NodeLine::Parent,
+        NodeLine::Ancestor,
+        NodeLine::Blank,
+    )
 }
 
 // What a column shows in a pad line.
 fn column_to_pad_line(column: Column) -> PadLine
     ensures { result ≡ pad_of column }
 {
-    match column {
-        Column::Empty => PadLine::Blank,
-        Column::Blocked => PadLine::Blank,
-        Column::Reserved(_) => PadLine::Blank,
-        Column::Ancestor(_) => PadLine::Ancestor,
-        Column::Parent(_) => PadLine::Parent,
-    }
+    shown(column, PadLine::Parent, PadLine::Ancestor, PadLine::Blank)
 }
 
 // The node line's cell.
@@ -62,45 +66,29 @@ pub fn plain_cell(need_link_line: bool, column: Column) -> Cell
 {
     let own = Marks::none();
     let all = with_uprights(own, false, column);
-    let node = column_to_node_line(column);
-    let link = link_cell(need_link_line, all);
-    let link_from_node = link_cell(need_link_line, own);
-    let ancestry = column_to_pad_line(column);
     Cell {
-        link,
-        link_from_node,
-        node,
+        link: link_cell(need_link_line, all),
+        link_from_node: link_cell(need_link_line, own),
+        node: column_to_node_line(column),
         term: false,
-        ancestry,
+        ancestry: column_to_pad_line(column),
         parent: false,
     }
-}
-
-// The cell of a column, of those of a Parent column, of an Ancestor one and of any other.
-pub fn shown(column: Column, parent: Cell, ancestor: Cell, blank: Cell) -> Cell
-    ensures { result ≡ cond (is_parent column) parent (cond (is_ancestor column) ancestor blank) }
-{
-    if column.is_parent() {
-        return parent;
-    }
-    if column.is_ancestor() {
-        return ancestor;
-    }
-    blank
 }
 
 // A plain cell with the strokes that pass it.
 fn passed_cell(plain: Cell, own: LinkLine) -> Cell
     ensures { result ≡ passed_by plain own }
 {
-    let upright = plain.link;
-    let mut out = plain;
-    out.link = upright.union(own);
-    out.link_from_node = own;
-    out
+    Cell {
+        link: plain.link.union(own),
+        link_from_node: own,
+        ..plain
+    }
 }
 
 // The cell of a column in which something of the row ends, from what it was before the entries and is after the swap.
+// Its parts are handed in one by one: `cell_of` of specs/Cells names each, and only this call and the next have them together.
 fn ended_cell(
     need_link_line: bool,
     bounds: AncestorColumnBounds,
@@ -112,25 +100,20 @@ fn ended_cell(
 ) -> Cell
     ensures { result ≡ cell_of need_link_line bounds swap index drawn before settled }
 {
-    let given_up = swap.given_up;
     let own = from_node(bounds, swap, index, drawn);
-    let all = with_uprights(own, is_at(given_up, index), before);
-    let node = node_cell(index, bounds.target, before);
-    let link = link_cell(need_link_line, all);
-    let link_from_node = link_cell(need_link_line, own);
-    let ancestry = column_to_pad_line(settled);
+    let all = with_uprights(own, swap.given_up == Some(index), before);
     Cell {
-        link,
-        link_from_node,
-        node,
+        link: link_cell(need_link_line, all),
+        link_from_node: link_cell(need_link_line, own),
+        node: node_cell(index, bounds.target, before),
         term: drawn.is_anonymous(),
-        ancestry,
+        ancestry: column_to_pad_line(settled),
         parent: drawn.is_drawn(),
     }
 }
 
 // One column of the shape, from its plain cell where nothing of the row ends in it, else from what it was before the entries and is after
-// the swap.
+// the swap. Its parts are handed in one by one, as `cell_with` of specs/Inner names each.
 pub fn cell(
     need_link_line: bool,
     bounds: AncestorColumnBounds,
@@ -143,8 +126,7 @@ pub fn cell(
 ) -> Cell
     ensures { result ≡ cell_with need_link_line bounds swap index drawn before settled plain }
 {
-    let given_up = swap.given_up;
-    if (index != bounds.target) & (!drawn.is_drawn() & !is_at(given_up, index)) {
+    if (index != bounds.target) & (!drawn.is_drawn() & (swap.given_up != Some(index))) {
         let own = passing(bounds, swap, index);
         return passed_cell(plain, link_cell(need_link_line, own));
     }

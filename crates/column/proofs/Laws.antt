@@ -13,8 +13,11 @@ use borrow.Author.Tests.{ltb-true, ltb-false, eqb-true, eqb-false}
 use Rattle.column.specs.declared.Column.{Column}
 use Rattle.column.specs.declared.Column.TheVariants.{Empty, Blocked, Reserved, Ancestor, Parent}
 use Rattle.column.specs.declared.Slot.{Slot}
-use Rattle.column.specs.declared.Found.{Found}
-use Rattle.column.specs.declared.Found.TheVariants.{At, Nothing}
+use Rattle.std.specs.Prelude.{Some, None, map}
+use Rattle.std.specs.List.{position, position_from}
+use Rattle.std.proofs.lemmas.List.{take_min}
+use Rattle.std.proofs.lemmas.Iterator.Adapters.{position_from-zero}
+use Rattle.column.specs.Found.{Found}
 use Rattle.column.specs.Columns.{column_limit, is_empty, next, first, find_empty, vacant, keep, trim, at, put, live, is_named, counted, carried, origins, origin_at, empty_slot}
 use Rattle.slices.specs.Lists.{put_with}
 use Rattle.slices.proofs.Places.{put-inside, put-end}
@@ -33,25 +36,41 @@ and-true false = refl
 
 -- ---- a search that has passed i columns: what is found from there, counted from 0
 abbrev pub later : ℕ → Found → Found
-later i (At j) = At (i + j)
-later i Nothing = Nothing
+later i (Some j) = Some (i + j)
+later i None = None
 
 later-next : (i : ℕ) (f : Found) → later i (next f) ≡ later (suc i) f
-later-next i (At j) = ap At (omega arith)
-later-next i Nothing = refl
+later-next i (Some j) = ap Some (omega arith)
+later-next i None = refl
 
 pub later-zero : (f : Found) → f ≡ later 0 f
-later-zero (At j) = ap At (omega arith)
-later-zero Nothing = refl
+later-zero (Some j) = ap Some (omega arith)
+later-zero None = refl
+
+-- the first column that passes a test is the library's first position of the slots
+position-step : (p : Column → Bool) (i : ℕ) (l : List Slot) (b : Bool) → position_from (λ (s : Slot). p s.column) (i + 1) l ≡ later (i + 1) (first p (map column_of l))
+    → cond b (Some i) (position_from (λ (s : Slot). p s.column) (i + 1) l) ≡ later i (cond b (Some 0) (next (first p (map column_of l))))
+position-step p i l true h = ap Some (omega arith)
+position-step p i l false h = h ∙ ap (λ (k : ℕ). later k (first p (map column_of l))) (add-one i) ∙ sym (later-next i (first p (map column_of l)))
+
+position-later : (p : Column → Bool) (i : ℕ) (l : List Slot) → position_from (λ (s : Slot). p s.column) i l ≡ later i (first p (map column_of l))
+position-later p i [] = refl
+position-later p i (s ∷ l) = position-step p i l (p s.column) (position-later p (i + 1) l)
+
+pub first-position : (p : Column → Bool) (l : List Slot) → position (λ (s : Slot). p s.column) l ≡ first p (map column_of l)
+first-position p l = position_from-zero (λ (s : Slot). p s.column) l ∙ position-later p 0 l ∙ sym (later-zero (first p (map column_of l)))
+
+pub first-live : (p : Column → Bool) (m n : ℕ) (l : List Slot) → m ≡ min n column_limit → length l ≡ column_limit → position (λ (s : Slot). p s.column) (take m l) ≡ first p (live n l)
+first-live p m n l h e = ap (position (λ (s : Slot). p s.column)) (ap (λ k. take k l) (h ∙ ap (min n) (sym e)) ∙ take_min n l) ∙ first-position p (take n l)
 
 module _ (p : Column → Bool) (cs : List Column) (i : ℕ) where
-  pub first-hit : i < length cs → p (at cs i) ≡ true → later i (first p (drop i cs)) ≡ At i
-  first-hit h e = rw (drop-cons cs i Empty h, e) (ap At (omega arith))
+  pub first-hit : i < length cs → p (at cs i) ≡ true → later i (first p (drop i cs)) ≡ Some i
+  first-hit h e = rw (drop-cons cs i Empty h, e) (ap Some (omega arith))
 
   pub first-miss : i < length cs → p (at cs i) ≡ false → later i (first p (drop i cs)) ≡ later (i + 1) (first p (drop (i + 1) cs))
   first-miss h e = rw (add-one i, drop-cons cs i Empty h, e) (later-next i (first p (drop (suc i) cs)))
 
-  pub first-end : length cs ≤ i → later i (first p (drop i cs)) ≡ Nothing
+  pub first-end : length cs ≤ i → later i (first p (drop i cs)) ≡ None
   first-end h = rw (drop_of_length-le cs {i = i} h)
 
 -- a live column is its slot's
@@ -96,17 +115,17 @@ module _ (n : ℕ) (l : List Slot) (i : ℕ) where
   find-empty-out h = rw (get_or-eq_default (live n l) Blocked {n = i} (rw length_front h))
 
   module _ (h : i < n) (k : i < length l) where
-    pub find-empty-hit : is_empty (get_or l i empty_slot).column ≡ true → find_empty i (live n l) ≡ At i
+    pub find-empty-hit : is_empty (get_or l i empty_slot).column ≡ true → find_empty i (live n l) ≡ Some i
     find-empty-hit e = rw (front-get_or column_of n l i empty_slot Blocked h k, e)
 
     pub find-empty-miss : is_empty (get_or l i empty_slot).column ≡ false → find_empty i (live n l) ≡ first is_empty (live n l)
     find-empty-miss e = rw (front-get_or column_of n l i empty_slot Blocked h k, e)
 
 module _ (n : ℕ) (l : List Slot) (i : ℕ) where
-  pub vacant-found : first is_empty (live n l) ≡ At i → i ≡ vacant (live n l)
+  pub vacant-found : first is_empty (live n l) ≡ Some i → i ≡ vacant (live n l)
   vacant-found e = rw e
 
-  pub vacant-last : first is_empty (live n l) ≡ Nothing → i ≡ min n (length l) → i ≡ vacant (live n l)
+  pub vacant-last : first is_empty (live n l) ≡ None → i ≡ min n (length l) → i ≡ vacant (live n l)
   vacant-last e h = rw (e, length_front column_of n l) h
 
 -- ---- an array of Empty slots that is filled
@@ -175,20 +194,20 @@ trim-at (c ∷ cs) (suc i) = keep_at c (trim cs) (suc i) ∙ trim-at cs i
 
 -- ---- where a search ends: below the number of columns
 module _ (p : Column → Bool) where
-  next-below : (f : Found) (m : ℕ) (i : ℕ) → ((j : ℕ) → f ≡ At j → j < m) → next f ≡ At i → i < suc m
-  next-below (At j) m i h e =
+  next-below : (f : Found) (m : ℕ) (i : ℕ) → ((j : ℕ) → f ≡ Some j → j < m) → next f ≡ Some i → i < suc m
+  next-below (Some j) m i h e =
       let k : suc j ≡ i = cc in
       omega (arith, h j refl)
-  next-below Nothing m i h e = let z : ◌≡◌ {A = ℕ} 0 1 = cc in absurd (omega arith)
+  next-below None m i h e = let z : ◌≡◌ {A = ℕ} 0 1 = cc in absurd (omega arith)
 
-  below-cons : (c : Column) (cs : List Column) (i : ℕ) (b : Bool) → p c ≡ b → ((j : ℕ) → first p cs ≡ At j → j < length cs) → first p (c ∷ cs) ≡ At i → i < suc (length cs)
+  below-cons : (c : Column) (cs : List Column) (i : ℕ) (b : Bool) → p c ≡ b → ((j : ℕ) → first p cs ≡ Some j → j < length cs) → first p (c ∷ cs) ≡ Some i → i < suc (length cs)
   below-cons c cs i true q h e =
-      let f : At 0 ≡ At i = rw q at e in
+      let f : Some 0 ≡ Some i = rw q at e in
       let k : 0 ≡ i = cc in
       omega arith
   below-cons c cs i false q h e = next-below (first p cs) (length cs) i h (rw q at e)
 
-  pub first_below : (cs : List Column) (i : ℕ) → first p cs ≡ At i → i < length cs
+  pub first_below : (cs : List Column) (i : ℕ) → first p cs ≡ Some i → i < length cs
   first_below [] i e = let z : ◌≡◌ {A = ℕ} 0 1 = cc in absurd (omega arith)
   first_below (c ∷ cs) i e = below-cons c cs i (p c) refl (first_below cs) e
 

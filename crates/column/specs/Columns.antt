@@ -1,12 +1,11 @@
 -- Columns as document 01 has them ("From columns to text", point 1): what a column is, merging, the lookups and reset.
-use Rattle.std.specs.Prelude.{ℕ, suc, ◌≤◌, ◌≡◌, Bool, true, false, cond, List, [], ◌∷◌, map, eqb, ltb, length, get_or, take}
+use Rattle.std.specs.Prelude.{ℕ, suc, ◌≤◌, ◌≡◌, Bool, true, false, cond, List, [], ◌∷◌, map, eqb, ltb, length, get_or, take, Some, None, unwrap_or}
 use Rattle.std.proofs.Math.Option.{Option, none, some}
 use Rattle.slices.specs.Lists.{put_with}
+use Rattle.column.specs.Found.{Found}
 use Rattle.column.specs.declared.Column.{Column}
 use Rattle.column.specs.declared.Column.TheVariants.{Empty, Blocked, Reserved, Ancestor, Parent}
 use Rattle.column.specs.declared.Slot.{Slot}
-use Rattle.column.specs.declared.Found.{Found}
-use Rattle.column.specs.declared.Found.TheVariants.{At, Nothing}
 use Rattle.column.specs.declared.Started.{Started}
 use Rattle.column.specs.declared.Started.TheVariants.{NotWaiting, Unnamed, By}
 
@@ -85,13 +84,13 @@ merge old new = cond (ltb (rank old) (rank new)) new old
 
 -- one column further on
 abbrev pub next : Found → Found
-next (At i) = At (suc i)
-next Nothing = Nothing
+next (Some i) = Some (suc i)
+next None = None
 
 -- the first column that passes a test, counted from 0
 abbrev pub first : (Column → Bool) → List Column → Found
-first p [] = Nothing
-first p (c ∷ cs) = cond (p c) (At 0) (next (first p cs))
+first p [] = None
+first p (c ∷ cs) = cond (p c) (Some 0) (next (first p cs))
 
 -- "`find`: first column holding the id." (01, point 1)
 abbrev pub find : ℕ → List Column → Found
@@ -99,16 +98,11 @@ find n cs = first (holds n) cs
 
 -- "`find_empty(i)`: column i if Empty, else the first Empty one." (01, point 1); a column that is not there is not Empty
 abbrev pub find_empty : ℕ → List Column → Found
-find_empty i cs = cond (is_empty (get_or cs i Blocked)) (At i) (first is_empty cs)
-
--- the column that a lookup found, else another one
-abbrev pub or_else : Found → ℕ → ℕ
-or_else (At i) j = i
-or_else Nothing j = j
+find_empty i cs = cond (is_empty (get_or cs i Blocked)) (Some i) (first is_empty cs)
 
 -- "the first Empty column or a new last one" (01, point 3)
 abbrev pub vacant : List Column → ℕ
-vacant cs = or_else (first is_empty cs) (length cs)
+vacant cs = unwrap_or (first is_empty cs) (length cs)
 
 -- "With Once dashes, Ancestor columns turn Parent" (01, "How a row finds its columns"; `convert_ancestor_to_parent` in column.rs)
 abbrev pub direct : Column → Column

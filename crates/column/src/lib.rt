@@ -3,6 +3,7 @@
 #![tactic(auto)]
 
 ghost use Rattle.std.specs.Prelude.{◌≡◌, ◌+◌, min, max, set};
+ghost use Rattle.std.specs.List.{position};
 ghost use Rattle.column.specs.Columns.{column_limit, rank as rank_of, holds, is_empty, is_reserved, is_ancestor, is_parent, is_named, column_at, merge as merged, first, find as find_in, vacant as vacant_in, direct, unblock as unblocked, live, empty_slot, slot_of, origin_or, started_by};
 
 // The most columns that are held.
@@ -26,14 +27,8 @@ pub struct Slot {
     pub origin: u32,
 }
 
-// What a lookup gives: a column's index, or nothing.
-#[derive(Clone, Copy)]
-pub enum Found {
-    At(usize),
-    Nothing,
-}
-
-// Who started an id's line: the id does not wait, it was only reserved, or the node whose row first named it.
+// Who started an id's line: the id does not wait, it was only reserved, or the node whose row first named it. Three answers, each by name: an Option
+// of an Option would name none of them.
 #[derive(Clone, Copy)]
 pub enum Started {
     NotWaiting,
@@ -47,11 +42,8 @@ impl Column {
         ensures { result ≡ holds node self }
     {
         match self {
-            Column::Empty => false,
-            Column::Blocked => false,
-            Column::Reserved(id) => node == id,
-            Column::Ancestor(id) => node == id,
-            Column::Parent(id) => node == id,
+            Column::Empty | Column::Blocked => false,
+            Column::Reserved(id) | Column::Ancestor(id) | Column::Parent(id) => node == id,
         }
     }
 
@@ -59,65 +51,35 @@ impl Column {
     pub fn is_empty(self) -> bool
         ensures { result ≡ is_empty self }
     {
-        match self {
-            Column::Empty => true,
-            Column::Blocked => false,
-            Column::Reserved(_) => false,
-            Column::Ancestor(_) => false,
-            Column::Parent(_) => false,
-        }
+        matches!(self, Column::Empty)
     }
 
     // Whether the column is Reserved.
     pub fn is_reserved(self) -> bool
         ensures { result ≡ is_reserved self }
     {
-        match self {
-            Column::Empty => false,
-            Column::Blocked => false,
-            Column::Reserved(_) => true,
-            Column::Ancestor(_) => false,
-            Column::Parent(_) => false,
-        }
+        matches!(self, Column::Reserved(_))
     }
 
     // Whether the column is Ancestor.
     pub fn is_ancestor(self) -> bool
         ensures { result ≡ is_ancestor self }
     {
-        match self {
-            Column::Empty => false,
-            Column::Blocked => false,
-            Column::Reserved(_) => false,
-            Column::Ancestor(_) => true,
-            Column::Parent(_) => false,
-        }
+        matches!(self, Column::Ancestor(_))
     }
 
     // Whether the column is Parent.
     pub fn is_parent(self) -> bool
         ensures { result ≡ is_parent self }
     {
-        match self {
-            Column::Empty => false,
-            Column::Blocked => false,
-            Column::Reserved(_) => false,
-            Column::Ancestor(_) => false,
-            Column::Parent(_) => true,
-        }
+        matches!(self, Column::Parent(_))
     }
 
     // Whether the column's id was named by a row.
     pub fn is_named(self) -> bool
         ensures { result ≡ is_named self }
     {
-        match self {
-            Column::Empty => false,
-            Column::Blocked => false,
-            Column::Reserved(_) => false,
-            Column::Ancestor(_) => true,
-            Column::Parent(_) => true,
-        }
+        matches!(self, Column::Ancestor(_) | Column::Parent(_))
     }
 
     // The column's rank, from 0 to 4 (`variant` in column.rs).
@@ -137,9 +99,11 @@ impl Column {
     pub fn merge(self, other: Column) -> Column
         ensures { result ≡ merged self other }
     {
-        let old = self.rank();
-        let new = other.rank();
-        if old < new { other } else { self }
+        if self.rank() < other.rank() {
+            other
+        } else {
+            self
+        }
     }
 
     // Blocked becomes Empty; any other column stays.
@@ -147,11 +111,8 @@ impl Column {
         ensures { result ≡ unblocked self }
     {
         match self {
-            Column::Empty => self,
             Column::Blocked => Column::Empty,
-            Column::Reserved(_) => self,
-            Column::Ancestor(_) => self,
-            Column::Parent(_) => self,
+            _ => self,
         }
     }
 
@@ -160,11 +121,8 @@ impl Column {
         ensures { result ≡ direct self }
     {
         match self {
-            Column::Empty => self,
-            Column::Blocked => self,
-            Column::Reserved(_) => self,
             Column::Ancestor(node) => Column::Parent(node),
-            Column::Parent(_) => self,
+            _ => self,
         }
     }
 }
@@ -201,13 +159,10 @@ impl Slot {
     pub fn started(self) -> Started
         ensures { result ≡ started_by self.column self.origin }
     {
-        let column = self.column;
-        match column {
-            Column::Empty => Started::NotWaiting,
-            Column::Blocked => Started::NotWaiting,
+        match self.column {
+            Column::Empty | Column::Blocked => Started::NotWaiting,
             Column::Reserved(_) => Started::Unnamed,
-            Column::Ancestor(_) => Started::By(self.origin),
-            Column::Parent(_) => Started::By(self.origin),
+            Column::Ancestor(_) | Column::Parent(_) => Started::By(self.origin),
         }
     }
 
@@ -226,84 +181,62 @@ impl Slot {
 pub fn live_count(count: usize) -> usize
     ensures { result ≡ min count column_limit }
 {
-    if COLUMN_LIMIT < count {
-        COLUMN_LIMIT
-    } else {
-        count
-    }
+    count.min(COLUMN_LIMIT)
 }
 
+// The first of the slots whose column holds the id.
+fn first_holding(live: &[Slot], node: u32) -> Option<usize>
+    ensures { result ≡ position (λ (s : _). holds node s.column) live.now }
+{
+    live.iter().position(|slot| slot.column.matches(node))
+}
+
+// The first of the slots whose column is Empty.
+fn first_free(live: &[Slot]) -> Option<usize>
+    ensures { result ≡ position (λ (s : _). is_empty s.column) live.now }
+{
+    live.iter().position(|slot| slot.column.is_empty())
+}
+
+// Here and below the slots and their count go by value, as the shaper does through the core, and each promise is of any count.
+
 // The first column that holds the id.
-pub fn find(slots: [Slot; COLUMN_LIMIT], count: usize, node: u32) -> Found
+pub fn find(slots: [Slot; COLUMN_LIMIT], count: usize, node: u32) -> Option<usize>
     ensures { result ≡ find_in node (live count slots) }
 {
-    let n = live_count(count);
-    let mut index: usize = 0;
-    while index < n {
-        let slot = slots[index];
-        let column = slot.column;
-        if column.matches(node) {
-            return Found::At(index);
-        }
-        index += 1;
-    }
-    Found::Nothing
+    first_holding(&slots[..live_count(count)], node)
 }
 
 // The first Empty column.
-pub fn first_empty(slots: [Slot; COLUMN_LIMIT], count: usize) -> Found
+pub fn first_empty(slots: [Slot; COLUMN_LIMIT], count: usize) -> Option<usize>
     ensures { result ≡ first is_empty (live count slots) }
 {
-    let n = live_count(count);
-    let mut i: usize = 0;
-    while i < n {
-        let slot = slots[i];
-        let column = slot.column;
-        if column.is_empty() {
-            return Found::At(i);
-        }
-        i += 1;
-    }
-    Found::Nothing
+    first_free(&slots[..live_count(count)])
 }
 
-// The first Empty column but column `skip`.
-pub fn first_other_empty(slots: [Slot; COLUMN_LIMIT], count: usize, skip: usize) -> Found
+// The first Empty column but column `skip`. The loop goes over places, since the place itself is compared.
+pub fn first_other_empty(slots: [Slot; COLUMN_LIMIT], count: usize, skip: usize) -> Option<usize>
     ensures { result ≡ first is_empty (set (live count slots) skip Column.Blocked) }
 {
-    let n = live_count(count);
-    let mut place: usize = 0;
-    while place < n {
-        let slot = slots[place];
-        let column = slot.column;
+    for place in 0..live_count(count) {
+        let column = slots[place].column;
         if column.is_empty() & (place != skip) {
-            return Found::At(place);
+            return Some(place);
         }
-        place += 1;
     }
-    Found::Nothing
+    None
 }
 
 // The first Empty column, else the index of a new last one: the limit itself where there is no room for one.
 pub fn vacant(slots: [Slot; COLUMN_LIMIT], count: usize) -> usize
     ensures { result ≡ vacant_in (live count slots) }
 {
-    let Found::At(index) = first_empty(slots, count) else {
-        return live_count(count);
-    };
-    index
+    first_empty(slots, count).unwrap_or(live_count(count))
 }
 
 // The number of columns once there is one at `index`: none past the limit.
 pub fn count_with(count: usize, index: usize) -> usize
     ensures { result ≡ min (max count (index + 1)) column_limit }
 {
-    let n = live_count(count);
-    if index < n {
-        return n;
-    }
-    if COLUMN_LIMIT <= index {
-        return COLUMN_LIMIT;
-    }
-    index + 1
+    live_count(count.max(index.saturating_add(1)))
 }

@@ -9,25 +9,18 @@ use lib.Seq.{take_at}
 use Rattle.render.specs.declared.types.DashStyle.{DashStyle}
 use Rattle.glyphs.specs.declared.Renderer.{Renderer}
 use Rattle.glyphs.specs.declared.Renderer.TheVariants.{Ascii, AsciiLarge, Square, Curved, Dec}
-use Rattle.glyphs.specs.declared.types.Choice.{Choice}
 use Rattle.glyphs.specs.declared.types.Choice.TheVariants.{Glyph}
 use Rattle.glyphs.specs.declared.types.PlainNumbers.{PlainNumbers}
 use Rattle.glyphs.specs.BoxDrawing as box
 use Rattle.glyphs.specs.Inner.{Plain}
 use Rattle.glyphs.specs.LinkTable.{Names}
-use Rattle.glyphs.specs.Tables.{glyph_at, box_table, ascii_table, large_table, BoxTables, Tables, number_of, box_number}
+use Rattle.glyphs.specs.Tables.{glyph_at, box_table, ascii_table, large_table, BoxTables, Tables, number_of}
 use Rattle.glyphs.proofs.LinkLaws.{entry-behind, names-facts}
 use Rattle.glyphs.proofs.TableLaws.{glyph-ahead}
 
 -- the renderer is Square, Curved or Dec
 abbrev pub IsBox : Renderer → Type 0
 IsBox q = (q ≡ Square) ⊎ ((q ≡ Curved) ⊎ (q ≡ Dec))
-
-pub box-number : (q : Renderer) (d : DashStyle) (i : ℕ) (x : Choice) → IsBox q → number_of q d i x ≡ box_number d x
-unfolding number_of
-box-number q d i x (inl e) = rw e
-box-number q d i x (inr (inl e)) = rw e
-box-number q d i x (inr (inr e)) = rw e
 
 pub box-plain : (q : Renderer) (d : DashStyle) (i : ℕ) (r : PlainNumbers) → IsBox q → Plain Square d i r → Plain q d i r
 unfolding number_of

@@ -1,15 +1,16 @@
 -- Laws of a line's cells written one by one out of a table: what the writers of cells cite.
 use mathlib.Core.Path.{◌≡◌, refl, sym, ap, ap₂, ◌∙◌}
-use mathlib.Core.Bool.{Bool, true, false}
-use mathlib.Core.List.{List, [], ◌∷◌, ◌++◌, map, append-nil}
+use mathlib.Core.List.{List, [], ◌∷◌, ◌++◌, map, append-nil, reverse}
 use Prim.Native.Nat.{ℕ, zero, suc, ◌+◌, ◌-◌, ◌*◌, ◌<◌, ◌≤◌, min, zero-le}
-use native.Mathlib.Nat.{add-zero, zero-min, min-zero, suc-min-suc}
+use native.Mathlib.Nat.{add-zero}
 use native.Mathlib.Numerals.{add-one}
 use native.Mathlib.Omega.{arith}
-use lib.Dec.{leb}
 use lib.ListN.{length, take, drop, get_or, set, length-append, length-take, length-drop, take-append-drop, drop_of_length-le}
-use lib.Seq.{take-take, take_all, take-suc, drop-cons, drop-drop, take-append-le, take-append-add, drop-append-add, length-take-le, take-length, get_or-take, drop-append_seam, take-append_seam}
-use borrow.Author.Tests.{le-leb, lt-leb, leb-true, leb-false}
+use lib.Seq.{take-take, take_all, take-suc, drop-cons, drop-drop, take-append-le, take-append-add, drop-append-add, length-take-le, drop-append_seam, take-append_seam}
+use borrow.Author.Tests.{le-leb, lt-leb}
+use Rattle.std.specs.List.{sum_by}
+use Rattle.std.proofs.lemmas.List.{get_or_read, get_or-reverse, length-reverse}
+use Rattle.std.proofs.lemmas.List.Recursion.{is_sum_by}
 use Rattle.column.specs.Columns.{column_limit}
 use Rattle.message.specs.Message.{trim_end}
 use Rattle.message.proofs.MessageLaws.{trim-front, trim-behind, trim-length}
@@ -18,7 +19,7 @@ use Rattle.slices.proofs.JoinLaws.{joins-append, so-short}
 use Rattle.slices.proofs.OverLaws.{writes-all, writes-none, part_length}
 use Rattle.glyphs.specs.Inner.{WritesWithin}
 use Rattle.glyphs.specs.Tables.{glyph_at, cells_text, first_cells, WritesCells}
-use Rattle.glyphs.proofs.TableLaws.{glyph-short, no-glyph, glyph-there}
+use Rattle.glyphs.proofs.TableLaws.{glyph-short, glyph-there}
 
 -- nothing has no first bytes
 take-nil : (n : ℕ) → ◌≡◌ {A = List ℕ} (take n []) []
@@ -51,61 +52,11 @@ module _ (t : List ℕ) (n : ℕ) (there : n * 9 + 9 ≤ length t) where
       let m : min (get_or t (n * 9) 0) 8 ≤ 8 = omega arith in
       glyph-there t n there ∙ ap (take (min (get_or t (n * 9) 0) 8)) eight_is ∙ take-take (min (get_or t (n * 9) 0) 8) 8 (drop (n * 9 + 1) t) m
 
--- the bytes of a glyph up to so many
-module _ (t : List ℕ) (n most count : ℕ) (e : count ≡ min (length (glyph_at t n)) most) where
-  taken-length : length (take most (glyph_at t n)) ≡ count
-  taken-length = rw length-take (omega (arith, e))
-
-  -- none
-  pub glyph-none : (o : List ℕ) → count ≡ 0 → (0 ≡ length (take most (glyph_at t n))) × (o ≡ over (take most (glyph_at t n)) o)
-  glyph-none o z =
-      let k : length (take most (glyph_at t n)) ≡ 0 = taken-length ∙ z in
-      (sym k, rw (empty (take most (glyph_at t n)) k))
-
-  -- where it has some, the table has it
-  pub glyph-some : (0 < count) → n * 9 + 9 ≤ length t
-  glyph-some h = go (leb (n * 9 + 9) (length t)) refl
-    where
-      go : (b : Bool) → leb (n * 9 + 9) (length t) ≡ b → n * 9 + 9 ≤ length t
-      go true k = leb-true (n * 9 + 9) (length t) k
-      go false k =
-          let z : length (glyph_at t n) ≡ 0 = ap length (no-glyph t n (leb-false (n * 9 + 9) (length t) k)) in
-          absurd (omega (arith, z))
-
-  pub glyph-part : 0 < count → take (n * 9 + 1 + count - (n * 9 + 1)) (drop (n * 9 + 1) t) ≡ take most (glyph_at t n)
-  glyph-part h =
-      let k : n * 9 + 1 + count - (n * 9 + 1) ≡ count = omega arith in
-      let there : n * 9 + 9 ≤ length t = glyph-some h in
-      let m : length (glyph_at t n) ≡ min (get_or t (n * 9) 0) 8 = sym (glyph-counted t n there (min (get_or t (n * 9) 0) 8) refl) in
-      let j : min most (min (get_or t (n * 9) 0) 8) ≡ count = omega (arith, m, e) in
-      rw (k, glyph-is t n there) (sym (take-both most (min (get_or t (n * 9) 0) 8) (drop (n * 9 + 1) t) ∙ ap (λ (i : ℕ). take i (drop (n * 9 + 1) t)) j))
-    where
-      take-both : (a b : ℕ) (l : List ℕ) → take a (take b l) ≡ take (min a b) l
-      take-both zero b l = ap (λ (i : ℕ). take i l) (sym (zero-min b))
-      take-both (suc a) zero l = ap (λ (i : ℕ). take i l) (sym (min-zero (suc a)))
-      take-both (suc a) (suc b) [] = ap (λ (i : ℕ). take i []) (sym (suc-min-suc a b))
-      take-both (suc a) (suc b) (x ∷ l) = ap (λ (r : List ℕ). x ∷ r) (take-both a b l) ∙ ap (λ (i : ℕ). take i (x ∷ l)) (sym (suc-min-suc a b))
-
-  -- copied out of the table
-  pub glyph-copied : 0 < count → (o p : List ℕ) → p ≡ take (n * 9 + 1 + count - (n * 9 + 1)) (drop (n * 9 + 1) t)
-      → (count ≡ length (take most (glyph_at t n))) × (p ++ drop count o ≡ over (take most (glyph_at t n)) o)
-  glyph-copied h o p f = (sym taken-length, ap₂ (λ (l : List ℕ) (k : ℕ). l ++ drop k o) (f ∙ glyph-part h) (sym taken-length))
-
--- all bytes of a glyph that has some
-pub glyph-whole : (t : List ℕ) (n : ℕ) → 0 < length (glyph_at t n) → (n * 9 + 9 ≤ length t)
-    × (take (n * 9 + 1 + length (glyph_at t n) - (n * 9 + 1)) (drop (n * 9 + 1) t) ≡ glyph_at t n)
-glyph-whole t n h =
-    let e : length (glyph_at t n) ≡ min (length (glyph_at t n)) (length (glyph_at t n)) = omega arith in (
-      glyph-some t n (length (glyph_at t n)) (length (glyph_at t n)) e h,
-      glyph-part t n (length (glyph_at t n)) (length (glyph_at t n)) e h ∙ take-length (glyph_at t n),
-    )
-
--- without the blanks at its end
-pub glyph-trimmed : (t : List ℕ) (n count r : ℕ) → count ≡ length (glyph_at t n) → 0 < count → r ≡ length (trim_end (take (n * 9 + 1 + count - (n * 9 + 1)) (drop (n * 9 + 1) t)))
-    → r ≡ length (trim_end (glyph_at t n))
-glyph-trimmed t n count r e h f =
-    let k : 0 < length (glyph_at t n) = omega arith in
-    f ∙ ap (λ (i : ℕ). length (trim_end (take (n * 9 + 1 + i - (n * 9 + 1)) (drop (n * 9 + 1) t)))) e ∙ ap (λ (l : List ℕ). length (trim_end l)) (glyph-whole t n k).1
+  -- as a slice of the table
+  pub glyph-slice : (count : ℕ) → count ≡ min (get_or t (n * 9) 0) 8 → take (n * 9 + 1 + count - (n * 9 + 1)) (drop (n * 9 + 1) t) ≡ glyph_at t n
+  glyph-slice count e =
+      let k : n * 9 + 1 + count - (n * 9 + 1) ≡ min (get_or t (n * 9) 0) 8 = omega (arith, e) in
+      rw k (sym glyph-is)
 
 -- eight bytes stored one by one
 pub eight-stored : (o : List ℕ) (a b c d e f g h : ℕ) → 8 ≤ length o
@@ -180,37 +131,38 @@ module _ (o p bs : List ℕ) (at k r : ℕ) (h : at ≤ length o) (w : WritesWit
       rw joined_is
       (ap (λ (i : ℕ). drop (i + k) (take at o ++ p)) (sym start-long) ∙ drop-append-add (take at o) p k ∙ w.behind ∙ ap (drop k) part-is ∙ drop-drop k at o)
 
+length-joins : (f : ℕ → List ℕ) (xs : List ℕ) → length (joins f xs) ≡ sum_by (λ (x : ℕ). length (f x)) xs
+length-joins f = is_sum_by (λ (xs : List ℕ). length (joins f xs)) (λ (x : ℕ). length (f x)) refl (λ x xs. length-append (f x) (joins f xs))
+
 -- ---- the cells one by one
-module _ (t numbers : List ℕ) (width : ℕ) where
+module _ (t numbers : List ℕ) where
   -- the bytes of the first i
   abbrev pub front : ℕ → List ℕ
-  front i = joins (glyph_at t) (take i (first_cells width numbers))
+  front i = joins (glyph_at t) (take i numbers)
 
   pub front-short : (i : ℕ) → length (front i) ≤ 8 * i
-  front-short i = so-short (glyph_at t) (first_cells width numbers) i 8 (glyph-short t)
+  front-short i = so-short (glyph_at t) numbers i 8 (glyph-short t)
 
-  pub front-all : (i : ℕ) → length (first_cells width numbers) ≤ i → front i ≡ cells_text t (first_cells width numbers)
-  front-all i h = ap (joins (glyph_at t)) (take_all i (first_cells width numbers) h)
+  pub front-all : (i : ℕ) → length numbers ≤ i → front i ≡ cells_text t numbers
+  front-all i h = ap (joins (glyph_at t)) (take_all i numbers h)
 
-  pub cells-few : length (first_cells width numbers) ≤ column_limit
-  cells-few = rw (length-take (min width column_limit) numbers) (omega arith)
+  -- as many as a row has, of eight bytes each at most
+  pub few_short : length numbers ≤ column_limit → length (cells_text t numbers) ≤ 512
+  few_short h = omega (arith, front-short column_limit, ap length (front-all column_limit h))
 
-  pub all_short : length (cells_text t (first_cells width numbers)) ≤ 512
-  all_short =
-      let e : front column_limit ≡ cells_text t (first_cells width numbers) = front-all column_limit cells-few in
-      omega (arith, front-short column_limit, ap length e)
+  -- the count of their bytes is the sum of the counts
+  pub counted-sum : (r : ℕ) → r ≡ sum_by (λ (n : ℕ). length (glyph_at t n)) numbers → r ≡ length (cells_text t numbers)
+  counted-sum r e = e ∙ sym (length-joins (glyph_at t) numbers)
 
   -- one more
-  module _ (i v : ℕ) (h : i < length (first_cells width numbers)) (e : v ≡ get_or numbers i 0) where
+  module _ (i v : ℕ) (h : i < length numbers) (e : v ≡ get_or numbers i 0) where
     pub front-next : front (i + 1) ≡ front i ++ glyph_at t v
     front-next =
-        let k : i < min width column_limit = omega (arith, length-take (min width column_limit) numbers) in
-        let g : get_or (first_cells width numbers) i 0 ≡ v = get_or-take (min width column_limit) numbers i 0 k ∙ sym e in
-        rw (add-one, take-suc (first_cells width numbers) i 0 h, joins-append, g, append-nil)
+        rw (add-one, take-suc numbers i 0 h, joins-append, ← e, append-nil)
 
   -- ---- up to a line's end
   pub record First (end : ℕ) (before : List ℕ) (i at : ℕ) (o : List ℕ) : Type 0 where
-    pub within : i ≤ length (first_cells width numbers)
+    pub within : i ≤ length numbers
     pub count : at ≡ length (take end (front i))
     pub bytes : take at o ≡ take end (front i)
     pub behind : drop end o ≡ drop end before
@@ -223,7 +175,7 @@ module _ (t numbers : List ℕ) (width : ℕ) where
   first-at end before i at o s = omega (arith, s.count, length-take end (front i))
 
   module _ (end : ℕ) (before : List ℕ) (room : end ≤ length before) (i at : ℕ) (o : List ℕ) (s : First end before i at o) (v : ℕ)
-      (h : i < length (first_cells width numbers)) (e : v ≡ get_or numbers i 0) where
+      (h : i < length numbers) (e : v ≡ get_or numbers i 0) where
     pub first_next : (p : List ℕ) (r : ℕ) → WritesWithin (take (end - at) (glyph_at t v)) (end - at) (take (length o - at) (drop at o)) p r
         → length p ≡ length (take (length o - at) (drop at o))
         → First end before (i + 1) (at + r) (take at o ++ (p ++ drop (length o - at) (drop at o)))
@@ -247,15 +199,15 @@ module _ (t numbers : List ℕ) (width : ℕ) where
         take-two zero (x ∷ xs) ys = let q : 0 - suc (length xs) ≡ 0 = omega arith in rw q
         take-two (suc n) (x ∷ xs) ys = let q : suc n - suc (length xs) ≡ n - length xs = omega arith in rw q (ap (λ (l : List ℕ). x ∷ l) (take-two n xs ys))
 
-  pub first-end : (end : ℕ) (before : List ℕ) (i at : ℕ) (o : List ℕ) → First end before i at o → length (first_cells width numbers) ≤ i
-      → WritesWithin (take end (cells_text t (first_cells width numbers))) end before o at
+  pub first-end : (end : ℕ) (before : List ℕ) (i at : ℕ) (o : List ℕ) → First end before i at o → length numbers ≤ i
+      → WritesWithin (take end (cells_text t numbers)) end before o at
   first-end end before i at o s h =
-      let e : take end (front i) ≡ take end (cells_text t (first_cells width numbers)) = ap (take end) (front-all i h) in
+      let e : take end (front i) ≡ take end (cells_text t numbers) = ap (take end) (front-all i h) in
       record { count = s.count ∙ ap length e; bytes = s.bytes ∙ e; behind = s.behind }
 
   -- ---- by eight places each
   pub record Eights (before : List ℕ) (i at : ℕ) (o : List ℕ) : Type 0 where
-    pub within : i ≤ length (first_cells width numbers)
+    pub within : i ≤ length numbers
     pub count : at ≡ length (front i)
     pub bytes : take at o ≡ front i
     pub behind : drop (at + 8) o ≡ drop (at + 8) before
@@ -267,7 +219,7 @@ module _ (t numbers : List ℕ) (width : ℕ) where
   pub eights_at : (before : List ℕ) (i at : ℕ) (o : List ℕ) → Eights before i at o → at ≤ 8 * i
   eights_at before i at o s = omega (arith, s.count, front-short i)
 
-  module _ (before : List ℕ) (i at : ℕ) (o : List ℕ) (s : Eights before i at o) (v : ℕ) (h : i < length (first_cells width numbers)) (e : v ≡ get_or numbers i 0) where
+  module _ (before : List ℕ) (i at : ℕ) (o : List ℕ) (s : Eights before i at o) (v : ℕ) (h : i < length numbers) (e : v ≡ get_or numbers i 0) where
     pub eights-next : (p : List ℕ) (r : ℕ) → at ≤ length o → WritesWithin (glyph_at t v) 8 (take (length o - at) (drop at o)) p r
         → length p ≡ length (take (length o - at) (drop at o))
         → Eights before (i + 1) (at + r) (take at o ++ (p ++ drop (length o - at) (drop at o)))
@@ -283,26 +235,33 @@ module _ (t numbers : List ℕ) (width : ℕ) where
           long = part_length o p at k z ∙ s.long;
         }
 
-  pub eights-end : (before : List ℕ) (i at : ℕ) (o : List ℕ) → Eights before i at o → length (first_cells width numbers) ≤ i
-      → WritesWithin (cells_text t (first_cells width numbers)) (at + 8) before o at
+  pub eights-end : (before : List ℕ) (i at : ℕ) (o : List ℕ) → Eights before i at o → length numbers ≤ i
+      → WritesWithin (cells_text t numbers) (at + 8) before o at
   eights-end before i at o s h =
-      let e : front i ≡ cells_text t (first_cells width numbers) = front-all i h in
+      let e : front i ≡ cells_text t numbers = front-all i h in
       record { count = s.count ∙ ap length e; bytes = s.bytes ∙ e; behind = s.behind }
 
   -- ---- blanks at the end
   pub record Tail (n blanks : ℕ) : Type 0 where
-    pub within : n ≤ length (first_cells width numbers)
-    pub sum : length (cells_text t (first_cells width numbers)) ≡ length (front n) + blanks
-    pub same : trim_end (cells_text t (first_cells width numbers)) ≡ trim_end (front n)
+    pub within : n ≤ length numbers
+    pub sum : length (cells_text t numbers) ≡ length (front n) + blanks
+    pub same : trim_end (cells_text t numbers) ≡ trim_end (front n)
 
-  pub tail-start : (n : ℕ) → n ≡ length (first_cells width numbers) → Tail n 0
+  -- the cell k from the end
+  pub tail-cell : (k v : ℕ) → (k < length (reverse numbers)) × (v ≡ get_or (reverse numbers) k v) → (0 < length numbers - k) × (v ≡ get_or numbers (length numbers - k - 1) 0)
+  tail-cell k v h =
+      let b : k < length numbers = omega (arith, h.0, length-reverse numbers) in
+      let j : length numbers - 1 - k ≡ length numbers - k - 1 = omega arith in
+      (omega arith, get_or_read (reverse numbers) k v h.0 h.1 0 ∙ get_or-reverse numbers k 0 b ∙ ap (λ (m : ℕ). get_or numbers m 0) j)
+
+  pub tail-start : (n : ℕ) → n ≡ length numbers → Tail n 0
   tail-start n e =
-      let f : front n ≡ cells_text t (first_cells width numbers) = front-all n (omega arith) in
+      let f : front n ≡ cells_text t numbers = front-all n (omega arith) in
       record { within = omega arith; sum = rw (f, add-zero); same = rw f }
 
   module _ (n blanks v more : ℕ) (s : Tail n blanks) (h : 0 < n) (e : v ≡ get_or numbers (n - 1) 0)
       (m : more ≡ length (glyph_at t v) - length (trim_end (glyph_at t v))) where
-    one_less : n - 1 < length (first_cells width numbers)
+    one_less : n - 1 < length numbers
     one_less = omega (arith, s.within)
 
     last_one : front n ≡ front (n - 1) ++ glyph_at t v
@@ -314,9 +273,9 @@ module _ (t numbers : List ℕ) (width : ℕ) where
     last-length = ap length last_one ∙ length-append (front (n - 1)) (glyph_at t v)
 
     pub tail-stop : (0 < length (trim_end (glyph_at t v)))
-        → blanks + more ≡ length (cells_text t (first_cells width numbers)) - length (trim_end (cells_text t (first_cells width numbers)))
+        → blanks + more ≡ length (cells_text t numbers) - length (trim_end (cells_text t numbers))
     tail-stop k =
-        let f : trim_end (cells_text t (first_cells width numbers)) ≡ front (n - 1) ++ trim_end (glyph_at t v) = s.same ∙ ap trim_end last_one ∙ trim-behind (front (n - 1)) (glyph_at t v) k in
+        let f : trim_end (cells_text t numbers) ≡ front (n - 1) ++ trim_end (glyph_at t v) = s.same ∙ ap trim_end last_one ∙ trim-behind (front (n - 1)) (glyph_at t v) k in
         omega (arith, s.sum, last-length, m, trim-length (glyph_at t v), ap length f ∙ length-append (front (n - 1)) (trim_end (glyph_at t v)))
 
     pub tail-next : length (trim_end (glyph_at t v)) ≡ 0 → Tail (n - 1) (blanks + more)
@@ -328,12 +287,20 @@ module _ (t numbers : List ℕ) (width : ℕ) where
         }
 
   pub tail-end : (n blanks : ℕ) → Tail n blanks → n ≤ 0
-      → blanks ≡ length (cells_text t (first_cells width numbers)) - length (trim_end (cells_text t (first_cells width numbers)))
+      → blanks ≡ length (cells_text t numbers) - length (trim_end (cells_text t numbers))
   tail-end n blanks s h =
       let z : n ≡ 0 = omega arith in
       let f : front n ≡ [] = ap front z in
-      let g : trim_end (cells_text t (first_cells width numbers)) ≡ [] = s.same ∙ ap trim_end f in
+      let g : trim_end (cells_text t numbers) ≡ [] = s.same ∙ ap trim_end f in
       omega (arith, s.sum, ap length f, ap length g)
+
+-- what the first of some numbers draw: no more cells than a row has, of eight bytes each at most
+module _ (t numbers : List ℕ) (width : ℕ) where
+  pub cells-few : length (first_cells width numbers) ≤ column_limit
+  cells-few = rw (length-take (min width column_limit) numbers) (omega arith)
+
+  pub all_short : length (cells_text t (first_cells width numbers)) ≤ 512
+  all_short = few_short t (first_cells width numbers) cells-few
 
 -- ---- a whole line
 
@@ -360,17 +327,17 @@ own-end bs o p r h w =
     writes-all bs o p r h w.count
     (sym (take-append-drop r p) ∙ ap₂ (λ (x y : List ℕ). x ++ y) w.bytes (ap (λ (i : ℕ). drop i p) w.count ∙ w.behind))
 
-module _ (t numbers : List ℕ) (width : ℕ) (o p : List ℕ) (r : ℕ) where
+module _ (t numbers o p : List ℕ) (r : ℕ) where
   abbrev line : List ℕ
-  line = cells_text t (first_cells width numbers)
+  line = cells_text t numbers
 
-  within-eights : length line ≤ 8 * length (first_cells width numbers)
+  within-eights : length line ≤ 8 * length numbers
   within-eights =
-      let n : ℕ = length (first_cells width numbers) in
-      omega (arith, front-short t numbers width n, ap length (front-all t numbers width n (omega arith)))
+      let n : ℕ = length numbers in
+      omega (arith, front-short t numbers n, ap length (front-all t numbers n (omega arith)))
 
   -- by eight places each
-  pub wide-done : (behind count : ℕ) → count ≡ length (first_cells width numbers) → (8 ≤ behind) × (8 * count + behind ≤ length o) → WritesWithin line (r + 8) o p r
+  pub wide-done : (behind count : ℕ) → count ≡ length numbers → (8 ≤ behind) × (8 * count + behind ≤ length o) → WritesWithin line (r + 8) o p r
       → WritesCells line behind o p r
   wide-done behind count e h w =
       cells-written line behind o p (r + 8) r (omega (arith, within-eights, e, h.1)) (omega (arith, w.count, h.0)) w

@@ -7,7 +7,7 @@ use native.Mathlib.Nat.{not-suc-le-zero, le_of_suc-le-suc, add-zero, zero-add}
 use native.Mathlib.Numerals.{add-one}
 use native.Mathlib.Omega.{arith}
 use lib.Dec.{ltb}
-use lib.ListN.{length, get_or, take, set, length-take, length-set}
+use lib.ListN.{length, get_or, take, drop, set, length-set}
 use lib.Seq.{take-suc, take_all, take-suc-set}
 use borrow.Author.Tests.{ltb-true, ltb-false, lt-ltb}
 use Rattle.column.specs.Columns.{column_limit}
@@ -33,11 +33,11 @@ use Rattle.render.specs.declared.render.PadLine.TheVariants as pad
 use Rattle.glyphs.specs.BoxDrawing.{Facts}
 use Rattle.glyphs.specs.Cells.{choice_by}
 use Rattle.glyphs.specs.Choices.{pad_choice, node_choice, term_choice}
-use Rattle.glyphs.specs.Inner.{is_link, link_line_choice, next_index, next_link, Plain, plain_choice, plain_number}
+use Rattle.glyphs.specs.Inner.{is_link, link_line_choice, Plain, plain_choice, plain_number}
 use Rattle.glyphs.specs.LinkTable.{named}
-use Rattle.glyphs.specs.Row.{places}
+use Rattle.glyphs.specs.Row.{first_link, places}
 use Rattle.glyphs.specs.Tables.{number_of, numbers_from, numbers_in, first_cells, Chooses}
-use Rattle.glyphs.proofs.PlaceLaws.{place-made, cells-fitting}
+use Rattle.glyphs.proofs.PlaceLaws.{place-made}
 
 -- ---- the numbers of a cell that is given no link
 
@@ -149,41 +149,23 @@ pub record Chosen (t : List ℕ) (d : Drawing) (l : Line) (n m i : ℕ) (numbers
   pub long : length numbers ≡ m
   pub front : take i numbers ≡ take i (numbers_in t d l)
 
-module _ (t : List ℕ) (d : Drawing) (l : Line) (w n m : ℕ) (long : length d.cells ≡ column_limit) (e : w ≡ min d.width column_limit) (f : n ≡ min w m) where
-  few : w ≤ column_limit
-  few = omega arith
-
-  same-cells : take w d.cells ≡ take d.width d.cells
-  same-cells = go (ltb d.width column_limit) refl
-    where
-      go : (b : Bool) → ltb d.width column_limit ≡ b → take w d.cells ≡ take d.width d.cells
-      go true h =
-          let k : w ≡ d.width = omega (arith, ltb-true d.width column_limit h) in
-          ap (λ (j : ℕ). take j d.cells) k
-      go false h =
-          let k : w ≡ column_limit = omega (arith, ltb-false d.width column_limit h) in
-          ap (λ (j : ℕ). take j d.cells) k ∙ cells-fitting d.cells d.width long (ltb-false d.width column_limit h)
-
-  count-numbers : length (numbers_in t d l) ≡ w
-  count-numbers =
-      let k : length (take w d.cells) ≡ w = length-take w d.cells ∙ omega (arith, long) in
-      length-numbers d.renderer d.row.dash_style (choice_by (named t) d.renderer d.row l) 0 (take d.width d.cells)
-      ∙ ap length (sym same-cells)
-      ∙ k
+module _ (t : List ℕ) (d : Drawing) (l : Line) (cells : List Cell) (n m : ℕ) (same : cells ≡ take d.width d.cells) (few : length cells ≤ column_limit)
+    (f : n ≡ min (length cells) m) where
+  count-numbers : length (numbers_in t d l) ≡ length cells
+  count-numbers = length-numbers d.renderer d.row.dash_style (choice_by (named t) d.renderer d.row l) 0 (take d.width d.cells) ∙ ap length (sym same)
 
   -- one more
-  module _ (i : ℕ) (h : i < n) (c : Cell) (g : c ≡ get_or d.cells i blank_cell) where
+  module _ (i : ℕ) (h : i < n) (c : Cell) (g : c ≡ get_or cells i blank_cell) where
     abbrev made : LinkLine → Place
     made next = record { index = i; cell = c; next = next }
 
-    number-made : (next : LinkLine) → next ≡ next_link (get_or d.cells (next_index i) blank_cell) i w
+    number-made : (next : LinkLine) → next ≡ first_link (drop (i + 1) cells)
         → number_of d.renderer d.row.dash_style i (choice_by (named t) d.renderer d.row l (made next)) ≡ get_or (numbers_in t d l) i 0
     number-made next z =
-        let j : i < w = omega arith in
-        let k : i < length (take d.width d.cells) = omega (arith, ap length same-cells, length-take w d.cells, long) in
-        let p : made next ≡ get_or (places 0 (take w d.cells)) i no_place = place-made d.cells w i long few j blank_cell no_place (made next) (rw (z, g)) in
+        let k : i < length (take d.width d.cells) = omega (arith, ap length same) in
+        let p : made next ≡ get_or (places 0 cells) i no_place = place-made cells i blank_cell c no_place next (omega arith) g z in
         ap (λ (x : Place). number_of d.renderer d.row.dash_style i (choice_by (named t) d.renderer d.row l x))
-        (p ∙ ap (λ (cs : List Cell). get_or (places 0 cs) i no_place) same-cells)
+        (p ∙ ap (λ (cs : List Cell). get_or (places 0 cs) i no_place) same)
         ∙ sym (rw (zero-add i) at (number_at d.renderer d.row.dash_style (choice_by (named t) d.renderer d.row l) 0 i (take d.width d.cells) k))
 
     choose-next : (numbers : List ℕ) (v : ℕ) → Chosen t d l n m i numbers → v ≡ get_or (numbers_in t d l) i 0 → Chosen t d l n m (i + 1) (set numbers i v)
@@ -196,14 +178,13 @@ module _ (t : List ℕ) (d : Drawing) (l : Line) (w n m : ℕ) (long : length d.
           front = rw (add-one i) (take-suc-set numbers i v k ∙ rw (s.front, z, take-suc (numbers_in t d l) i 0 j));
         }
 
-    pub choose-link : (numbers : List ℕ) (v k : ℕ) (next : LinkLine) → Chosen t d l n m i numbers → is_link l ≡ true → k ≡ next_index i
-        → next ≡ next_link (get_or d.cells k blank_cell) i w
+    pub choose-link : (numbers : List ℕ) (v : ℕ) (next : LinkLine) → Chosen t d l n m i numbers → is_link l ≡ true → next ≡ first_link (drop (i + 1) cells)
         → v ≡ number_of d.renderer d.row.dash_style i (link_line_choice (named t) d.renderer d.row l (made next))
         → Chosen t d l n m (i + 1) (set numbers i v)
-    choose-link numbers v k next s link b z u =
+    choose-link numbers v next s link z u =
         choose-next numbers v s
         (u ∙ ap (number_of d.renderer d.row.dash_style i) (link-same (named t) d.renderer d.row l (made next) link)
-        ∙ number-made next (z ∙ ap (λ (j : ℕ). next_link (get_or d.cells j blank_cell) i w) b))
+        ∙ number-made next z)
 
     pub choose-plain : (numbers : List ℕ) (v : ℕ) (first others at : PlainNumbers) → Chosen t d l n m i numbers → is_link l ≡ false
         → Plain d.renderer d.row.dash_style 0 first → Plain d.renderer d.row.dash_style 1 others → at ≡ cond (ltb 0 i) others first
@@ -211,7 +192,7 @@ module _ (t : List ℕ) (d : Drawing) (l : Line) (w n m : ℕ) (long : length d.
         → Chosen t d l n m (i + 1) (set numbers i v)
     choose-plain numbers v first others at s link x y b u =
         let p : Plain d.renderer d.row.dash_style i at = rw b (plain_at d.renderer d.row.dash_style i first others x y) in
-        let next : LinkLine = next_link (get_or d.cells (next_index i) blank_cell) i w in
+        let next : LinkLine = first_link (drop (i + 1) cells) in
         choose-next numbers v s
         (u ∙ plain-same d.renderer d.row.dash_style i at p (named t) d.row l (made next) link ∙ number-made next refl)
 

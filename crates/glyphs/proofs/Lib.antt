@@ -4,6 +4,7 @@ pub mod ChoiceLaws
 pub mod CountedLaws
 pub mod LinkLaws
 pub mod PlaceLaws
+pub mod RowLaws
 pub mod TableLaws
 pub mod UnionLaws
 pub mod WriteLaws

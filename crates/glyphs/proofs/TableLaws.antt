@@ -89,13 +89,13 @@ pub ancestor-small : (d : DashStyle) → box.ancestor d < 15
 ancestor-small Persistent = lit≤ tt
 ancestor-small Once = lit≤ tt
 
-pub dashed-apart : (d : DashStyle) {n : ℕ} → n ≡ 5 * place_in centers (ascii.ancestor d) → n ≡ three_number blank (ascii.ancestor d) blank
-dashed-apart Persistent e = e
-dashed-apart Once e = e
+pub dashed_apart : (d : DashStyle) {n : ℕ} → n ≡ 5 * place_in centers (ascii.ancestor d) → n ≡ three_number blank (ascii.ancestor d) blank
+dashed_apart Persistent e = e
+dashed_apart Once e = e
 
-pub dashed-first : (d : DashStyle) {n : ℕ} → n ≡ 5 * place_in centers (ascii.ancestor d) → 150 + n ≡ first_number (ascii.ancestor d) blank
-dashed-first Persistent e = rw e
-dashed-first Once e = rw e
+pub dashed_first : (d : DashStyle) {n : ℕ} → n ≡ 5 * place_in centers (ascii.ancestor d) → 150 + n ≡ first_number (ascii.ancestor d) blank
+dashed_first Persistent e = rw e
+dashed_first Once e = rw e
 
 -- ---- the number of a link line's cell is a byte
 cond_below : (b : Bool) (x y k : ℕ) → x < k → y < k → cond b x y < k

@@ -1,7 +1,5 @@
--- What the inner functions give: the next cell, and bytes that are written within a line.
-use Rattle.std.specs.Prelude.{ℕ, ◌+◌, ◌-◌, min, ◌≡◌, Bool, true, false, cond, List, ltb, length, take, drop}
-use Rattle.column.specs.Columns.{column_limit}
-use Rattle.render.specs.declared.render.LinkLine.{LinkLine}
+-- What the inner functions give: the numbers of cells, and bytes that are written within a line.
+use Rattle.std.specs.Prelude.{ℕ, ◌≡◌, Bool, true, false, List, length, take, drop}
 use Rattle.render.specs.declared.types.Cell.{Cell}
 use Rattle.render.specs.declared.types.DashStyle.{DashStyle}
 use Rattle.render.specs.Link.{no_marks}
@@ -17,14 +15,6 @@ use Rattle.glyphs.specs.BoxDrawing.{Facts}
 use Rattle.glyphs.specs.Cells.{link_choice, second_link_choice}
 use Rattle.glyphs.specs.Choices.{choice_with, no_choice}
 use Rattle.glyphs.specs.Tables.{number_of}
-
--- the index of the cell that is read as the next one
-abbrev pub next_index : ℕ → ℕ
-next_index i = min (i + 1) (column_limit - 1)
-
--- the next cell's link, empty past the end
-abbrev pub next_link : Cell → ℕ → ℕ → LinkLine
-next_link after i width = cond (ltb (i + 1) width) after.link no_marks
 
 -- the numbers of a cell that is given no link
 pub record Plain (q : Renderer) (d : DashStyle) (i : ℕ) (r : PlainNumbers) : Type 0 where

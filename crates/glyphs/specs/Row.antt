@@ -5,7 +5,7 @@ use Rattle.render.specs.declared.render.PadLine.{PadLine}
 use Rattle.render.specs.declared.render.PadLine.TheVariants.{Blank, Ancestor, Parent}
 use Rattle.render.specs.declared.types.Cell.{Cell}
 use Rattle.render.specs.declared.types.RowShape.{RowShape}
-use Rattle.render.specs.Entries.{any_of}
+use Rattle.std.specs.List.{list_any}
 use Rattle.render.specs.Lines.{cells_of}
 use Rattle.render.specs.Link.{meets, no_marks}
 use Rattle.glyphs.specs.declared.Renderer.{Renderer}
@@ -38,8 +38,8 @@ row_of g =
       dash_style = g.style.dash_style;
       link_line = g.link_line;
       term_line = g.term_line;
-      any_horizontal = any_of is_horizontal (cells_of g);
-      has_indirect_ancestor = any_of is_indirect (cells_of g);
+      any_horizontal = list_any is_horizontal (cells_of g);
+      has_indirect_ancestor = list_any is_indirect (cells_of g);
     }
 
 -- what the lines of a shape are drawn from

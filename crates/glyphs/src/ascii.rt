@@ -69,6 +69,7 @@ pub(crate) fn dash(dash_style: DashStyle) -> u8
 }
 
 // The upright of a link cell that has no horizontal stroke.
+#[tactic(auto, unfolding(crate::specs::Ascii::standing))]
 fn standing_upright(row: Row, cur: LinkLine) -> u8
     ensures { result ≡ standing row cur }
 {
@@ -83,6 +84,7 @@ fn standing_upright(row: Row, cur: LinkLine) -> u8
 }
 
 // The parent or ancestor line of a link cell.
+#[tactic(auto, unfolding(crate::specs::Ascii::upright))]
 pub(crate) fn link_upright(row: Row, cur: LinkLine) -> u8
     ensures { result ≡ upright row cur }
 {
@@ -104,6 +106,7 @@ pub(crate) fn link_upright(row: Row, cur: LinkLine) -> u8
 }
 
 // The connecting line of a link cell.
+#[tactic(auto, unfolding(crate::specs::Ascii::connection))]
 pub(crate) fn link_connection(row: Row, cur: LinkLine, next: LinkLine) -> u8
     ensures { result ≡ connection row cur next }
 {
@@ -126,7 +129,8 @@ pub(crate) fn link_connection(row: Row, cur: LinkLine, next: LinkLine) -> u8
     }
 }
 
-// The number of an upright, or of another first character of a cell, past the last where it is none.
+// The number of an upright, or of another first character of a cell, past the last where it is none. Here and below a match is as plain as a
+// search of a list of the characters would be: one arm for each.
 fn upright_number(character: u8) -> usize
     ensures { result ≡ place_in uprights character }
 {
@@ -174,8 +178,7 @@ pub(crate) fn number(choice: Choice, dash_style: DashStyle) -> usize
         Choice::Mark => MARK,
         Choice::End => pair_number(b'~', b' '),
         Choice::Two(a, b) => pair_number(a, b),
-        Choice::Three(_, _, _) => MARK + 1,
-        Choice::Glyph(_) => MARK + 1,
+        Choice::Three(_, _, _) | Choice::Glyph(_) => MARK + 1,
     }
 }
 
@@ -190,6 +193,7 @@ fn dashed_number(dash_style: DashStyle) -> u8
 }
 
 // The numbers of a cell that is given no link.
+#[tactic(auto, unfolding(crate::specs::Tables::number_of))]
 pub(crate) fn plain_numbers(dash_style: DashStyle) -> PlainNumbers
     ensures { (i : ℕ) → Plain Ascii dash_style i result }
 {

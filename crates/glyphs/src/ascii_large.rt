@@ -206,7 +206,7 @@ const LARGE_GLYPHS: [u8; LARGE_TABLE] = *b"\
     \x02\0 \0\0\0\0\0\0\
 ";
 
-// One character where the cell has the parent's mark, one where it has the ancestor's, else another.
+// One character where the cell has the parent's mark, one where it has the ancestor's, else another; six by value, as the definition names each.
 fn pick(cur: LinkLine, parent: LinkLine, ancestor: LinkLine, solid: u8, dashed: u8, other: u8) -> u8
     ensures { result ≡ stroke cur parent ancestor solid dashed other }
 {
@@ -220,6 +220,7 @@ fn pick(cur: LinkLine, parent: LinkLine, ancestor: LinkLine, solid: u8, dashed: 
 }
 
 // The horizontal stroke of the upper link line.
+#[tactic(auto, unfolding(crate::specs::AsciiLarge::level))]
 fn horizontal(cur: LinkLine) -> u8
     ensures { result ≡ level cur }
 {
@@ -234,6 +235,7 @@ fn horizontal(cur: LinkLine) -> u8
 }
 
 // The left character of the upper link line.
+#[tactic(auto, unfolding(crate::specs::AsciiLarge::top_left))]
 fn top_left(cur: LinkLine) -> u8
     ensures { result ≡ top_left cur }
 {
@@ -248,6 +250,7 @@ fn top_left(cur: LinkLine) -> u8
 }
 
 // What the upper link line's center shows without an upright.
+#[tactic(auto, unfolding(crate::specs::AsciiLarge::lying))]
 fn below_center(cur: LinkLine) -> u8
     ensures { result ≡ lying cur }
 {
@@ -259,6 +262,7 @@ fn below_center(cur: LinkLine) -> u8
 }
 
 // The center of the upper link line.
+#[tactic(auto, unfolding(crate::specs::AsciiLarge::top_center))]
 fn top_center(dash_style: DashStyle, cur: LinkLine) -> u8
     ensures { result ≡ top_center dash_style cur }
 {
@@ -273,6 +277,7 @@ fn top_center(dash_style: DashStyle, cur: LinkLine) -> u8
 }
 
 // The right character of the upper link line.
+#[tactic(auto, unfolding(crate::specs::AsciiLarge::top_right))]
 fn top_right(cur: LinkLine) -> u8
     ensures { result ≡ top_right cur }
 {
@@ -287,6 +292,7 @@ fn top_right(cur: LinkLine) -> u8
 }
 
 // The left character of the lower link line.
+#[tactic(auto, unfolding(crate::specs::AsciiLarge::bottom_left))]
 fn bottom_left(cur: LinkLine) -> u8
     ensures { result ≡ bottom_left cur }
 {
@@ -301,6 +307,7 @@ fn bottom_left(cur: LinkLine) -> u8
 }
 
 // The center of the lower link line.
+#[tactic(auto, unfolding(crate::specs::AsciiLarge::bottom_center))]
 fn bottom_center(dash_style: DashStyle, cur: LinkLine) -> u8
     ensures { result ≡ bottom_center dash_style cur }
 {
@@ -315,6 +322,7 @@ fn bottom_center(dash_style: DashStyle, cur: LinkLine) -> u8
 }
 
 // The right character of the lower link line.
+#[tactic(auto, unfolding(crate::specs::AsciiLarge::bottom_right))]
 fn bottom_right(cur: LinkLine) -> u8
     ensures { result ≡ bottom_right cur }
 {
@@ -339,7 +347,7 @@ fn characters(index: usize, left: u8, center: u8, right: u8) -> Choice
     }
 }
 
-// A cell of the upper link line.
+// A cell of the upper link line; beside `bottom`, since each names its own three characters.
 pub(crate) fn top(dash_style: DashStyle, index: usize, cur: LinkLine) -> Choice
     ensures { result ≡ linked index (top_left cur) (top_center dash_style cur) (top_right cur) }
 {
@@ -363,7 +371,7 @@ pub(crate) fn bottom(dash_style: DashStyle, index: usize, cur: LinkLine) -> Choi
     )
 }
 
-// The number of a left character, past the last where it is none.
+// The number of a left character, past the last where it is none; a match here and below, as in ascii.rt.
 fn left_number(character: u8) -> usize
     ensures { result ≡ place_in lefts character }
 {
@@ -465,6 +473,7 @@ fn dashed_number(dash_style: DashStyle) -> u8
 }
 
 // The numbers of a cell that is given no link.
+#[tactic(auto, using(crate::proofs::TableLaws::dashed_apart, crate::proofs::TableLaws::dashed_first), unfolding(crate::specs::Tables::number_of))]
 pub(crate) fn plain_numbers(dash_style: DashStyle, index: usize) -> PlainNumbers
     ensures { Plain AsciiLarge dash_style index result }
 {

@@ -169,7 +169,7 @@ fn link_place(merge: bool, cur: LinkLine) -> usize
         + weighed(merge, 256)
 }
 
-// A byte as a number.
+// A byte as a number. Its bound is what `link_glyph` promises.
 fn wide(byte: u8) -> usize
     ensures { (result ≡ byte) × (result < 256) }
 {
@@ -207,13 +207,13 @@ pub(crate) fn number(choice: Choice, dash_style: DashStyle) -> usize
         Choice::Dashed => dashed(dash_style),
         Choice::Mark => MARK,
         Choice::End => TERMINATION,
-        Choice::Two(_, _) => MARK + 1,
-        Choice::Three(_, _, _) => MARK + 1,
+        Choice::Two(_, _) | Choice::Three(_, _, _) => MARK + 1,
         Choice::Glyph(n) => own_dash(dash_style, n),
     }
 }
 
 // The numbers of a cell that is given no link.
+#[tactic(auto, unfolding(crate::specs::Tables::number_of))]
 pub(crate) fn plain_numbers(dash_style: DashStyle) -> PlainNumbers
     ensures { (i : ℕ) → Plain Square dash_style i result }
 {
@@ -231,8 +231,7 @@ fn glyphs(renderer: Renderer) -> [u8; GLYPHS]
     ensures { (m : ℕ) (n : ℕ) → glyph_at (set result 136 m) n ≡ get_or (box_table (glyphs_of renderer) m) n [] }
 {
     match renderer {
-        Renderer::Ascii => NO_GLYPHS,
-        Renderer::AsciiLarge => NO_GLYPHS,
+        Renderer::Ascii | Renderer::AsciiLarge => NO_GLYPHS,
         Renderer::Square => SQUARE_GLYPHS,
         Renderer::Curved => CURVED_GLYPHS,
         Renderer::Dec => DEC_GLYPHS,

@@ -1,16 +1,16 @@
 // What each cell is given in each line, and the number by which it is drawn, in all renderers.
-ghost use Rattle.std.specs.Prelude.{◌≡◌, cond, ◌<◌, ltb};
+ghost use Rattle.std.specs.Prelude.{◌≡◌, cond, ◌+◌, ◌<◌, drop, length, ltb};
 ghost use Rattle.glyphs.specs.Cells.{link_choice, second_link_choice};
 ghost use Rattle.glyphs.specs.Choices.{pad_choice, node_choice};
-ghost use Rattle.glyphs.specs.Inner.{glyph_of, is_link, link_line_choice, next_index, next_link, Plain, plain_choice, plain_number};
+ghost use Rattle.glyphs.specs.Inner.{glyph_of, is_link, link_line_choice, Plain, plain_choice, plain_number};
 ghost use Rattle.glyphs.specs.LinkTable.{named};
+ghost use Rattle.glyphs.specs.Row.{first_link};
 ghost use Rattle.glyphs.specs.Tables.{number_of, numbers_in, Chooses};
 
 use crate::types::{Choice, Drawing, Line, Place, PlainNumbers, Row};
 use crate::{Renderer, ascii, ascii_large, box_drawing};
 use column::COLUMN_LIMIT;
 use render::{Cell, DashStyle, LinkLine, NodeLine, PadLine};
-use slices::lesser;
 
 // A link line's choice.
 fn link_choice(table: &[u8], renderer: Renderer, row: Row, place: Place) -> Choice
@@ -40,37 +40,25 @@ fn second_link_choice(renderer: Renderer, row: Row, place: Place) -> Choice
     let cur = cell.link;
     let dash_style = row.dash_style;
     match renderer {
-        Renderer::Ascii => Choice::Space,
         Renderer::AsciiLarge => ascii_large::bottom(dash_style, place.index, cur),
-        Renderer::Square => Choice::Space,
-        Renderer::Curved => Choice::Space,
-        Renderer::Dec => Choice::Space,
+        Renderer::Ascii | Renderer::Square | Renderer::Curved | Renderer::Dec => Choice::Space,
     }
-}
-
-// The index of the next cell; the last cell's is its own.
-fn next_index(i: usize) -> usize
-    ensures { result ≡ next_index i }
-{
-    if i < COLUMN_LIMIT - 1 {
-        return i + 1;
-    }
-    COLUMN_LIMIT - 1
 }
 
 // The next cell's link, empty past the end.
-fn next_link(after: Cell, i: usize, width: usize) -> LinkLine
-    ensures { result ≡ next_link after i width }
+fn next_link(cells: &[Cell], i: usize) -> LinkLine
+    requires { i < length cells.now }
+    ensures { result ≡ first_link (drop (i + 1) cells.now) }
 {
-    if i < width {
-        if i + 1 < width {
-            return after.link;
-        }
+    match cells.get(i + 1) {
+        Some(after) => after.link,
+        None => LinkLine::EMPTY,
     }
-    LinkLine::EMPTY
 }
 
-// The number by which a renderer draws what a cell was given.
+// The number by which a renderer draws what a cell was given. A trait of the renderers would be no plainer: its three impls differ in every arm
+// and in what they are given, and this match would choose the impl.
+#[tactic(auto, unfolding(crate::specs::Tables::number_of))]
 fn number_of(renderer: Renderer, dash_style: DashStyle, index: usize, choice: Choice) -> usize
     ensures { result ≡ number_of renderer dash_style index choice }
 {
@@ -83,7 +71,7 @@ fn number_of(renderer: Renderer, dash_style: DashStyle, index: usize, choice: Ch
     }
 }
 
-// Those of a renderer's cell.
+// The numbers of a renderer's cell that is given no link, written out in each renderer: five calls of `number_of` cost 740 instructions more for a row's lines.
 fn plain_numbers(renderer: Renderer, dash_style: DashStyle, index: usize) -> PlainNumbers
     ensures { Plain renderer dash_style index result }
 {
@@ -148,8 +136,7 @@ fn plain_number(numbers: PlainNumbers, row: Row, line: Line, cell: Cell) -> u8
         Line::PreNode => pad_number(numbers, node.to_pad_line(row.is_head)),
         Line::Node => node_number(numbers, node),
         Line::PostNode => pad_number(numbers, node.to_pad_line(row.is_root)),
-        Line::Link => numbers.space,
-        Line::SecondLink => numbers.space,
+        Line::Link | Line::SecondLink => numbers.space,
         Line::Term => term_number(numbers, numbers.solid, cell),
         Line::SecondTerm => term_number(numbers, numbers.end, cell),
         Line::Ancestry => pad_number(numbers, ancestry),
@@ -162,19 +149,20 @@ fn link_line_choice(table: &[u8], renderer: Renderer, row: Row, line: Line, plac
     ensures { (result ≡ link_line_choice (named table.now) renderer row line place) × (glyph_of result < 256) }
 {
     match line {
-        Line::PreNode => Choice::Space,
-        Line::Node => Choice::Space,
-        Line::PostNode => Choice::Space,
         Line::Link => link_choice(table, renderer, row, place),
         Line::SecondLink => second_link_choice(renderer, row, place),
-        Line::Term => Choice::Space,
-        Line::SecondTerm => Choice::Space,
-        Line::Ancestry => Choice::Space,
-        Line::PostAncestry => Choice::Space,
+        Line::PreNode
+        | Line::Node
+        | Line::PostNode
+        | Line::Term
+        | Line::SecondTerm
+        | Line::Ancestry
+        | Line::PostAncestry => Choice::Space,
     }
 }
 
 // The number by which a cell of a link line is drawn.
+#[tactic(auto, using(crate::proofs::TableLaws::number_small))]
 fn link_number(table: &[u8], renderer: Renderer, row: Row, line: Line, place: Place) -> u8
     ensures { result ≡ number_of renderer row.dash_style place.index (link_line_choice (named table.now) renderer row line place) }
 {
@@ -187,53 +175,33 @@ fn link_number(table: &[u8], renderer: Renderer, row: Row, line: Line, place: Pl
 fn is_link(line: Line) -> bool
     ensures { result ≡ is_link line }
 {
-    match line {
-        Line::PreNode => false,
-        Line::Node => false,
-        Line::PostNode => false,
-        Line::Link => true,
-        Line::SecondLink => true,
-        Line::Term => false,
-        Line::SecondTerm => false,
-        Line::Ancestry => false,
-        Line::PostAncestry => false,
-    }
+    matches!(line, Line::Link | Line::SecondLink)
 }
 
 // Chooses the glyphs of a line, a number for each cell, as many as there is room for, and gives their count; a box drawing renderer's link
-// cells by the entries of the lent table. Both loops stand here to save a copy of the cells.
+// cells by the entries of the lent table.
 pub fn choose_cells(numbers: &mut [u8], table: &[u8], drawing: Drawing, line: Line) -> usize
     ensures { Chooses (numbers_in table.now drawing line) numbers.old numbers.new result }
 {
     let renderer = drawing.renderer;
-    let cells = drawing.cells;
-    let width = lesser(drawing.width, COLUMN_LIMIT);
-    let count = lesser(width, numbers.len());
-    let mut i: usize = 0;
+    let row = drawing.row;
+    let cells = &drawing.cells[..drawing.width.min(COLUMN_LIMIT)];
+    let count = cells.len().min(numbers.len());
     if is_link(line) {
-        while i < count {
-            let cell = cells[i];
-            let k = next_index(i);
-            let after = cells[k];
-            let next = next_link(after, i, width);
+        for (i, cell) in cells[..count].iter().enumerate() {
             let place = Place {
                 index: i,
-                cell,
-                next,
+                cell: *cell,
+                next: next_link(cells, i),
             };
-            numbers[i] = link_number(table, renderer, drawing.row, line, place);
-            i += 1;
+            numbers[i] = link_number(table, renderer, row, line, place);
         }
         return count;
     }
-    let row = drawing.row;
-    let dash_style = row.dash_style;
-    let first = plain_numbers(renderer, dash_style, 0);
-    let others = plain_numbers(renderer, dash_style, 1);
-    while i < count {
-        let cell = cells[i];
-        numbers[i] = plain_number(numbers_at(first, others, i), drawing.row, line, cell);
-        i += 1;
+    let first = plain_numbers(renderer, row.dash_style, 0);
+    let others = plain_numbers(renderer, row.dash_style, 1);
+    for (i, cell) in cells[..count].iter().enumerate() {
+        numbers[i] = plain_number(numbers_at(first, others, i), row, line, *cell);
     }
     count
 }

@@ -8,7 +8,6 @@ ghost use Rattle.slices.specs.Joins.{over, Writes};
 
 use column::COLUMN_LIMIT;
 use message::trimmed_length;
-use slices::{difference, lesser};
 
 // The bytes of a glyph in a table: a count, and eight places.
 pub(crate) const GLYPH: usize = 9;
@@ -17,21 +16,18 @@ pub(crate) const GLYPH: usize = 9;
 fn at_most_eight(count: u8) -> usize
     ensures { result ≡ min count 8 }
 {
-    if count < 8 {
-        return count as usize;
-    }
-    8
+    usize::from(count).min(8)
 }
 
-// The count of a glyph's bytes, 0 past the last glyph.
-fn glyph_length(table: &[u8], n: u8) -> usize
-    ensures { result ≡ length (glyph_at table.now n) }
+// The bytes of a glyph, none past the last glyph.
+fn glyph(table: &[u8], n: u8) -> &[u8]
+    ensures { result.now ≡ glyph_at table.now n }
 {
     let from = n as usize * GLYPH;
     if table.len() < from + GLYPH {
-        return 0;
+        return &[];
     }
-    at_most_eight(table[from])
+    &table[from + 1..from + 1 + at_most_eight(table[from])]
 }
 
 // Writes the first bytes of a glyph, at most so many.
@@ -40,16 +36,13 @@ fn write_glyph(out: &mut [u8], table: &[u8], n: u8, most: usize) -> usize
     ensures { (result ≡ length (take most (glyph_at table.now n)))
         × (out.new ≡ over (take most (glyph_at table.now n)) out.old) }
 {
-    let count = lesser(glyph_length(table, n), most);
-    if count == 0 {
-        return 0;
-    }
-    let from = n as usize * GLYPH + 1;
-    out[..count].copy_from_slice(&table[from..from + count]);
+    let bytes = glyph(table, n);
+    let count = bytes.len().min(most);
+    out[..count].copy_from_slice(&bytes[..count]);
     count
 }
 
-// Writes a glyph by its eight places, all of them read before the first is written.
+// Writes a glyph by its eight places, all of them read before the first is written: `copy_from_slice` here tests whether its two slices overlap, six instructions more for each cell.
 fn write_wide(out: &mut [u8], table: &[u8], n: u8) -> usize
     requires { 8 ≤ length out.old }
     ensures { WritesWithin (glyph_at table.now n) 8 out.old out.new result }
@@ -88,91 +81,100 @@ fn write_cell(out: &mut [u8], table: &[u8], n: u8, left: usize) -> usize
     write_glyph(out, table, n, left)
 }
 
-// How many cells are drawn of so many: no more than there are numbers, and than a row has.
-fn cell_count(numbers: &[u8], width: usize) -> usize
-    ensures { (result ≡ length (first_cells width numbers.now)) × (result ≤ column_limit) }
-{
-    lesser(lesser(width, COLUMN_LIMIT), numbers.len())
+// The cells of a line: the table that they are drawn from, and their numbers, at most as many as a row has.
+#[derive(Clone, Copy)]
+struct Cells<'a> {
+    table: &'a [u8],
+    numbers: &'a [u8],
+    ghost few: { length numbers.now ≤ column_limit },
 }
 
-// Writes the first `end` bytes of the cells of a line that has so many.
-fn write_first(out: &mut [u8], table: &[u8], numbers: &[u8], width: usize, end: usize) -> usize
-    requires { end ≤ length out.old }
-    ensures { WritesWithin (take end (cells_text table.now (first_cells width numbers.now))) end out.old out.new result }
-{
-    let count = cell_count(numbers, width);
-    let mut at: usize = 0;
-    let mut i: usize = 0;
-    while i < count {
-        at += write_cell(&mut out[at..], table, numbers[i], end - at);
-        i += 1;
-    }
-    at
-}
-
-// Writes the cells of a line that has eight bytes or more behind them, each by its eight places.
-fn write_by_eight(out: &mut [u8], table: &[u8], numbers: &[u8], width: usize) -> usize
-    requires { 8 * length (first_cells width numbers.now) + 8 ≤ length out.old }
-    ensures { WritesWithin (cells_text table.now (first_cells width numbers.now)) (result + 8) out.old out.new result }
-{
-    let count = cell_count(numbers, width);
-    let mut at: usize = 0;
-    let mut i: usize = 0;
-    while i < count {
-        at += write_wide(&mut out[at..], table, numbers[i]);
-        i += 1;
-    }
-    at
-}
-
-// The count of the cells' bytes.
-pub fn cells_length(table: &[u8], numbers: &[u8], width: usize) -> usize
-    ensures { result ≡ length (cells_text table.now (first_cells width numbers.now)) }
-{
-    let count = cell_count(numbers, width);
-    let mut length: usize = 0;
-    let mut i: usize = 0;
-    while i < count {
-        length += glyph_length(table, numbers[i]);
-        i += 1;
-    }
-    length
-}
-
-// The count of a glyph's bytes without the blanks at its end.
-fn glyph_end(table: &[u8], n: u8) -> usize
-    ensures { result ≡ length (trim_end (glyph_at table.now n)) }
-{
-    let count = glyph_length(table, n);
-    if count == 0 {
-        return 0;
-    }
-    let from = n as usize * GLYPH + 1;
-    trimmed_length(&table[from..from + count])
-}
-
-// How many blanks stand at the end of a glyph.
-fn blanks_behind(table: &[u8], n: u8) -> usize
-    ensures { result ≡ length (glyph_at table.now n) - length (trim_end (glyph_at table.now n)) }
-{
-    glyph_length(table, n) - glyph_end(table, n)
-}
-
-// How many blanks stand at the end of the cells, which the finished line lacks.
-pub fn trailing_blanks(table: &[u8], numbers: &[u8], width: usize) -> usize
-    ensures { result ≡ length (cells_text table.now (first_cells width numbers.now)) - length (trim_end (cells_text table.now (first_cells width numbers.now))) }
-{
-    let mut n = cell_count(numbers, width);
-    let mut blanks: usize = 0;
-    while 0 < n {
-        n -= 1;
-        let number = numbers[n];
-        blanks += blanks_behind(table, number);
-        if glyph_end(table, number) != 0 {
-            return blanks;
+impl<'a> Cells<'a> {
+    // The first of some numbers, at most as many as a row has.
+    fn first(table: &'a [u8], numbers: &'a [u8], width: usize) -> Cells<'a>
+        ensures drawn_from { result.table.now ≡ table.now }
+        ensures first { result.numbers.now ≡ first_cells width numbers.now }
+    {
+        let count = width.min(COLUMN_LIMIT).min(numbers.len());
+        Cells {
+            table,
+            numbers: &numbers[..count],
         }
     }
-    blanks
+
+    // The count of the cells' bytes.
+    fn length(&self) -> usize
+        ensures { result ≡ length (cells_text self.now.table.now self.now.numbers.now) }
+    {
+        let table = self.table;
+        self.numbers.iter().map(|n| glyph(table, *n).len()).sum()
+    }
+
+    // Writes the first `end` bytes of the cells of a line that has so many.
+    fn write_first(&self, out: &mut [u8], end: usize) -> usize
+        requires { end ≤ length out.old }
+        ensures { WritesWithin (take end (cells_text self.now.table.now self.now.numbers.now)) end out.old out.new result }
+    {
+        let mut at = 0;
+        for n in self.numbers {
+            at += write_cell(&mut out[at..], self.table, *n, end - at);
+        }
+        at
+    }
+
+    // Writes the cells of a line that has eight bytes or more behind them, each by its eight places.
+    fn write_by_eight(&self, out: &mut [u8]) -> usize
+        requires { 8 * length self.now.numbers.now + 8 ≤ length out.old }
+        ensures { WritesWithin (cells_text self.now.table.now self.now.numbers.now) (result + 8) out.old out.new result }
+    {
+        let mut at = 0;
+        for n in self.numbers {
+            at += write_wide(&mut out[at..], self.table, *n);
+        }
+        at
+    }
+
+    // How many blanks stand at the end of the cells.
+    fn trailing_blanks(&self) -> usize
+        ensures { result ≡ length (cells_text self.now.table.now self.now.numbers.now) - length (trim_end (cells_text self.now.table.now self.now.numbers.now)) }
+    {
+        let mut blanks = 0;
+        for n in self.numbers.iter().rev() {
+            let bytes = glyph(self.table, *n);
+            let end = trimmed_length(bytes);
+            blanks += bytes.len() - end;
+            if end != 0 {
+                return blanks;
+            }
+        }
+        blanks
+    }
+
+    // Writes the cells of a line that has so many bytes behind them, where there is room for both.
+    fn write(&self, out: &mut [u8], behind: usize) -> usize
+        ensures { WritesCells (cells_text self.now.table.now self.now.numbers.now) behind out.old out.new result }
+    {
+        let size = out.len();
+        if is_wide(size, self.numbers.len(), behind) {
+            return self.write_by_eight(out);
+        }
+        let all = self.length();
+        if size < all || size - all < behind {
+            return 0;
+        }
+        self.write_first(out, all + behind)
+    }
+
+    // Writes the cells of a line without so many blanks at their end, where there is room for the other bytes.
+    fn write_finished(&self, out: &mut [u8], blanks: usize) -> usize
+        ensures { Writes (take (length (cells_text self.now.table.now self.now.numbers.now) - blanks) (cells_text self.now.table.now self.now.numbers.now)) out.old out.new result }
+    {
+        let end = self.length().saturating_sub(blanks);
+        if out.len() < end {
+            return 0;
+        }
+        self.write_first(out, end)
+    }
 }
 
 // Whether so many cells can be written by eight places each: eight bytes or more stand behind them, and an output of so many bytes has room for all that.
@@ -180,13 +182,22 @@ fn is_wide(size: usize, count: usize, behind: usize) -> bool
     requires { count ≤ column_limit }
     ensures { result ≡ true → (8 ≤ behind) × (8 * count + behind ≤ size) }
 {
-    if behind < 8 {
-        return false;
-    }
-    if size < behind {
-        return false;
-    }
-    8 * count <= size - behind
+    8 <= behind && behind <= size && 8 * count <= size - behind
+}
+
+// The count of the cells' bytes. This and the three below make the struct of parts that their callers hold apart: a table that each renderer makes in
+// its own size, and numbers in an array with their count.
+pub fn cells_length(table: &[u8], numbers: &[u8], width: usize) -> usize
+    ensures { result ≡ length (cells_text table.now (first_cells width numbers.now)) }
+{
+    Cells::first(table, numbers, width).length()
+}
+
+// How many blanks stand at the end of the cells, which the finished line lacks.
+pub fn trailing_blanks(table: &[u8], numbers: &[u8], width: usize) -> usize
+    ensures { result ≡ length (cells_text table.now (first_cells width numbers.now)) - length (trim_end (cells_text table.now (first_cells width numbers.now))) }
+{
+    Cells::first(table, numbers, width).trailing_blanks()
 }
 
 // Writes the cells of a line that has so many bytes behind them, where there is room for both.
@@ -199,18 +210,7 @@ pub fn write_cells(
 ) -> usize
     ensures { WritesCells (cells_text table.now (first_cells width numbers.now)) behind out.old out.new result }
 {
-    let size = out.len();
-    if is_wide(size, cell_count(numbers, width), behind) {
-        return write_by_eight(out, table, numbers, width);
-    }
-    let all = cells_length(table, numbers, width);
-    if size < all {
-        return 0;
-    }
-    if size - all < behind {
-        return 0;
-    }
-    write_first(out, table, numbers, width, all + behind)
+    Cells::first(table, numbers, width).write(out, behind)
 }
 
 // Writes the cells of a line without so many blanks at their end, where there is room for the other bytes.
@@ -223,9 +223,5 @@ pub fn write_finished(
 ) -> usize
     ensures { Writes (take (length (cells_text table.now (first_cells width numbers.now)) - blanks) (cells_text table.now (first_cells width numbers.now))) out.old out.new result }
 {
-    let end = difference(cells_length(table, numbers, width), blanks);
-    if out.len() < end {
-        return 0;
-    }
-    write_first(out, table, numbers, width, end)
+    Cells::first(table, numbers, width).write_finished(out, blanks)
 }

@@ -16,7 +16,8 @@ use Rattle.row_shape.specs.Row.{RowReply, row_checks, row_answer, row}
 use Rattle.glyphs.specs.Cells.{glyphs_of}
 use Rattle.message.specs.Message.{message_limit, is_writable, all_of, lines_of}
 use Rattle.output.specs.Output.{finish, text_of, TextView}
-use Rattle.text.specs.Text.{text_lines, text_after, text_checks, text_answer, text_with}
+use Rattle.text.specs.Text.{text_lines, text_after, text_checks, text_with}
+use Rattle.steps.proofs.Room.{number-told}
 use Rattle.history.specs.Account.{Call, Reserve, Row, is_drawn}
 use Rattle.history.specs.Ours.{TextArguments, Item, Plain, Text, call_of, text_on, is_refusal, refuses}
 
@@ -27,10 +28,6 @@ passes false true c z d r e h = absurd (omega (arith, h))
 passes false false true z d r e h = absurd (omega (arith, h))
 passes false false false true d r e h = eqb-true r 0 e
 passes false false false false d r e h = h
-
-number-told : (k : ℕ) (ls : List (List ℕ)) (out : List ℕ) (v w : View) (t u : TextView) → (text_answer k ls out v w t u).refusal ≡ k
-number-told zero ls out v w t u = refl
-number-told (suc k) ls out v w t u = refl
 
 module _ (v : View) (a : TextArguments) (n : ℕ) (es : List Entry) where
   abbrev called : RowReply

@@ -7,8 +7,9 @@ use mathlib.Core.List.{List, [], ◌∷◌, ◌++◌, map, append_assoc, append-
 use native.Mathlib.Omega.{arith}
 use lib.Dec.{eqb}
 use lib.ListN.{length, get_or, take, drop, replicate}
-use lib.Seq.{take-append_seam, drop-append_seam}
+use lib.Seq.{take-append_seam}
 use borrow.Author.Tests.{lt-ltb, ne_eqb}
+use Rattle.std.proofs.lemmas.List.{append_cancel_left}
 use Rattle.render.specs.declared.render.Ancestor.{Ancestor as Entry}
 use Rattle.render.specs.declared.render.PadLine.{PadLine}
 use Rattle.render.specs.declared.render.PadLine.TheVariants as pad
@@ -31,6 +32,7 @@ use Rattle.glyphs.specs.Tables.{glyph_at, table_of, numbers_from}
 use Rattle.glyphs.proofs.TableLaws.{holds, glyph-line}
 use Rattle.message.specs.Inner.{ends}
 use Rattle.message.specs.Message.{all_of, lines_of}
+use Rattle.message.proofs.MessageLaws.{ends-append}
 use Rattle.slices.specs.Characters.{newline}
 use Rattle.slices.specs.Joins.{joins, over}
 use Rattle.prefix_lines.specs.PrefixLines.{letter, lettered_line, lines_bytes, checks_for, answered, next_prefix_lines}
@@ -207,11 +209,7 @@ module _ (q : Renderer) (d : DashStyle) where
       let a : read q d i ([] ++ (stroke_bytes q d i Blank ++ [])) ≡ x = rw e at (read_back i x (stroke_bytes q d i Blank ++ []) h) in
       let b : read q d i ([] ++ (stroke_bytes q d i Solid ++ [])) ≡ x = rw e at (read_back i x (stroke_bytes q d i Solid ++ []) h) in
       let s : Blank ≡ Solid = sym (blank-read q d i []) ∙ a ∙ sym b ∙ solid-read q d i [] in
-      let z : ◌≡◌ {A = ℕ} 0 1 = cc in
-      omega arith
-
-  behind-told : (bs r s : List ℕ) → bs ++ r ≡ bs ++ s → r ≡ s
-  behind-told bs r s e = sym (drop-append_seam bs r) ∙ ap (drop (length bs)) e ∙ drop-append_seam bs s
+      cc
 
   -- equal bytes are of equal lines of strokes
   from_told : (i : ℕ) (xs ys : List Stroke) → NoOther xs → NoOther ys → strokes_from q d i xs ≡ strokes_from q d i ys → xs ≡ ys
@@ -224,7 +222,7 @@ module _ (q : Renderer) (d : DashStyle) where
       same = front-told i x y (strokes_from q d (suc i) xs) (strokes_from q d (suc i) ys) e h.0 k.0
 
       behind : strokes_from q d (suc i) xs ≡ strokes_from q d (suc i) ys
-      behind = behind-told (stroke_bytes q d i y) (strokes_from q d (suc i) xs) (strokes_from q d (suc i) ys) (rw same at e)
+      behind = append_cancel_left (stroke_bytes q d i y) (strokes_from q d (suc i) xs) (strokes_from q d (suc i) ys) (rw same at e)
 
   pub lines-told : (xs ys : List Stroke) → NoOther xs → NoOther ys → strokes_bytes q d xs ≡ strokes_bytes q d ys → xs ≡ ys
   lines-told xs ys h k e = from_told 0 xs ys h k e
@@ -241,10 +239,6 @@ pub foot-known : (q : Renderer) (g : RowShape) → NoOther (foot_line q g)
 foot-known q g = rw (foot-shows q g) (pads-known (post_ancestry_line g))
 
 -- ---- no line has a 0A within it
-
-ends-append : (a b : List ℕ) → ends (a ++ b) ≡ ends a + ends b
-ends-append [] b = omega arith
-ends-append (x ∷ a) b = rw (ends-append a b) (omega arith)
 
 joins-no-end : (f : ℕ → List ℕ) → ((n : ℕ) → ends (f n) ≡ 0) → (ns : List ℕ) → ends (joins f ns) ≡ 0
 joins-no-end f h [] = refl
@@ -363,7 +357,7 @@ good-mark : (g : RowShape) (q : Renderer) (mark : ℕ) (out : List ℕ) → (nex
 good-mark g q mark out h = go (is_mark mark) refl
   where
     go : (b : Bool) → is_mark mark ≡ b → eqb mark newline ≡ false
-    go true e = ne_eqb mark newline (λ z. let f : false ≡ true = rw z at e in let n : ◌≡◌ {A = ℕ} 0 1 = cc in omega arith)
+    go true e = ne_eqb mark newline (λ z. let f : false ≡ true = rw z at e in cc)
     go false e = let z : mark_outside_span ≡ 0 = rw e at h in absurd (omega (arith, z))
 
 -- every accepted renderer call writes them

@@ -11,11 +11,12 @@ use native.Mathlib.Decide.{dec_lt}
 use borrow.Author.Tests.{ne_eqb}
 use lib.Dec.{eqb}
 use lib.ListN.{length}
+use Rattle.std.specs.Prelude.{Some}
+use Rattle.std.proofs.lemmas.Option.{same_Some}
 use Rattle.column.specs.declared.Column.{Column}
-use Rattle.column.specs.declared.Found.{Found}
-use Rattle.column.specs.declared.Found.TheVariants.{At}
 use Rattle.column.specs.declared.Column.TheVariants.{Empty, Blocked, Reserved, Ancestor, Parent}
-use Rattle.column.specs.Columns.{or_else, at, origin_at}
+use Rattle.column.specs.Found.{Found}
+use Rattle.column.specs.Columns.{at, origin_at}
 use Rattle.column.proofs.Positions.{past_end}
 use Rattle.marked.proofs.Holding.{held_below}
 use Rattle.history.specs.Account.{Call, Reserve, Row, Wait, Idle, AsReserved, AsNamed, Waiting, call_id, is_drawn, nobody, named, unless_waiting, starter, account, Named}
@@ -38,12 +39,12 @@ over-kinds c i x h = go (eqb i c) x h
     go : (t : Bool) (x : Stroke) → x ≢ Other → cond t (solid x) x ≢ Other
     go false x h = h
     go true Blank h = h
-    go true Dashed h = λ e. let z : ◌≡◌ {A = ℕ} 0 1 = cc in omega arith
+    go true Dashed h = λ e. cc
     go true Solid h = h
     go true Other h = h
 
 blank-kind : Blank ≢ Other
-blank-kind e = let z : ◌≡◌ {A = ℕ} 0 1 = cc in omega arith
+blank-kind e = cc
 
 heads : (M : Machine) (s : M.State) (w : Waiting) (a : Above) (ks : List M.Item) → ((i : ℕ) → cell a.foot i ≢ Other) → Each M (Kept M) s w a ks → Each M (HeadKinds M) s w a ks
 heads M s w a [] h K = tt
@@ -52,7 +53,7 @@ heads M s w a (k ∷ ks) h K = (
   heads M (M.after s k) (waiting_after M s k w) (above_after M s k a) ks (kept (draws M s k) refl) K.1,
 )
   where
-    kept : (t : Bool) → draws M s k ≡ t → (i : ℕ) → cell (cond t (record { foot = M.foot s k; node = At (M.node s k) }) a).foot i ≢ Other
+    kept : (t : Bool) → draws M s k ≡ t → (i : ℕ) → cell (cond t (record { foot = M.foot s k; node = Some (M.node s k) }) a).foot i ≢ Other
     kept true d i = K.0.kinds d i
     kept false d i = h i
 
@@ -69,9 +70,9 @@ near cs w n c p P = go (w n) refl (dec_lt (suc (length cs)) c)
     -- both the column past the last one and the next would be the previous node's
     two : w n ≡ Idle → suc (length cs) < c → ⊥
     two z l =
-        let e : p ≡ At (length cs) = P.first z (length cs) (omega arith) (past_end cs (length cs) (omega arith)) in
-        let f : p ≡ At (suc (length cs)) = P.first z (suc (length cs)) l (past_end cs (suc (length cs)) (omega arith)) in
-        omega (arith, ap (λ (x : Found). or_else x 0) (sym e ∙ f))
+        let e : p ≡ Some (length cs) = P.first z (length cs) (omega arith) (past_end cs (length cs) (omega arith)) in
+        let f : p ≡ Some (suc (length cs)) = P.first z (suc (length cs)) l (past_end cs (suc (length cs)) (omega arith)) in
+        omega (arith, same_Some (length cs) (suc (length cs)) (sym e ∙ f))
 
     go : (x : Wait) → w n ≡ x → Dec (suc (length cs) < c) → c ≤ suc (length cs)
     go Idle e (yes l) = absurd (two e l)

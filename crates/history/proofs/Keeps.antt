@@ -7,18 +7,17 @@ use mathlib.Core.List.{List, [], ◌∷◌}
 use mathlib.Core.Option.{none-ne-some}
 use native.Mathlib.Omega.{arith}
 use native.Mathlib.Decide.{dec_lt}
-use lib.Dec.{ltb}
+use Rattle.std.specs.Prelude.{Some, None}
 use Rattle.column.specs.declared.Column.{Column}
 use Rattle.column.specs.declared.Column.TheVariants.{Empty, Blocked, Reserved, Ancestor, Parent}
-use Rattle.column.specs.declared.Found.{Found}
-use Rattle.column.specs.declared.Found.TheVariants.{At, Nothing}
+use Rattle.column.specs.Found.{Found}
 use Rattle.column.specs.Columns.{rank, find, vacant, at, put, started_by, origin_at}
 use Rattle.render.specs.declared.render.Ancestor.{Ancestor as Entry}
 use Rattle.render.specs.declared.types.Options.{Options}
 use Rattle.render.specs.declared.types.RowShape.{RowShape}
 use Rattle.render.specs.Entries.{entry_id}
 use Rattle.render.specs.Refusals.{refusal}
-use Rattle.shaper.specs.Shaper.{height_limit, View, Reply, answer, new_shaper, reserve_checks, reserved_in, reserved, reserved_origins, with_columns, reserve, started_in}
+use Rattle.shaper.specs.Shaper.{View, Reply, answer, new_shaper, reserve_checks, reserved_in, reserved, reserved_origins, with_columns, reserve, started_in}
 use Rattle.shaper.specs.NodeColumn.{node_column}
 use Rattle.placing.specs.Placing.{Placed, place_at, place}
 use Rattle.row_shape.specs.Row.{RowReply, row_checks, shape_at, row_after, row_answer, row, no_shape}
@@ -26,6 +25,7 @@ use Rattle.history.specs.Account.{Call, Reserve, Row, Waiting, call_id, is_drawn
 use Rattle.history.specs.Demand3.{Stroke, Other, Holds, wait_of, OneEntry, cell, is_stroke, over_node, Pulls, Above, nothing_above, waiting_after, above_after, Kept, Each, KeepsEveryLine}
 use Rattle.history.specs.Ours.{TextArguments, Item, Plain, Text, call_of, text_on, is_refusal, refuses, after, shape_of, head_line, foot_line, ours}
 use Rattle.glyphs.specs.declared.Renderer.{Renderer}
+use Rattle.marked.proofs.FewEntries.{new-bare}
 use Rattle.marked.proofs.Holding.{Where, away, there, find_is}
 use Rattle.history.proofs.AsRow.{row-accepted, accepted-view, refused-view, row-refused}
 use Rattle.history.proofs.Lines.{head-shows as head-line, foot-shows as foot-line}
@@ -111,7 +111,7 @@ module _ (q : Renderer) where
   module _ (v : View) (w : Waiting) (a : Above) where
     -- what a call that counts as c leaves to the next row, by its shape
     abbrev left : Call → Bool → RowShape → Above
-    left c refused g = cond (is_drawn c refused) (record { foot = foot_line q g; node = At g.node_column }) a
+    left c refused g = cond (is_drawn c refused) (record { foot = foot_line q g; node = Some g.node_column }) a
 
     -- the same of the call c as which it counts, whether it is refused, the view u after it and its shape g
     record Facts (c : Call) (refused : Bool) (u : View) (g : RowShape) : Type 0 where
@@ -179,16 +179,16 @@ module _ (q : Renderer) where
 
       -- ---- a reservation
       stays : (n : ℕ) (o : Found) (i x : ℕ) → Holds v.columns i x → Holds (reserved_in o n v.columns) i x
-      stays n (At j) i x h = h
-      stays n Nothing i x h = reserve-stays n v.columns i x h
+      stays n (Some j) i x h = h
+      stays n None i x h = reserve-stays n v.columns i x h
 
       is-tidy : (n : ℕ) (o : Found) → Tidy (reserved_in o n v.columns)
-      is-tidy n (At j) = I.tidy
-      is-tidy n Nothing = reserve-tidy v.columns (vacant v.columns) n I.tidy
+      is-tidy n (Some j) = I.tidy
+      is-tidy n None = reserve-tidy v.columns (vacant v.columns) n I.tidy
 
       is-shown : (n : ℕ) (o : Found) → Shows a.foot (reserved_in o n v.columns)
-      is-shown n (At j) = I.shows
-      is-shown n Nothing = reserve-shows n v.columns a.foot I.shows
+      is-shown n (Some j) = I.shows
+      is-shown n None = reserve-shows n v.columns a.foot I.shows
 
       reserve-facts : (n : ℕ) → Facts (Reserve n) false (with_columns v (reserved n v.columns) (reserved_origins n v.columns v.origins)) no_shape
       reserve-facts n =
@@ -294,7 +294,7 @@ module _ (q : Renderer) where
       let r = step v w a k I in
       (r.0, keeps (after v k) (waiting_after (ours q) v k w) (above_after (ours q) v k a) r.1 ks)
 
-start : (v : View) → v.columns ≡ [] → v.previous ≡ Nothing → Inv v nobody nothing_above
+start : (v : View) → v.columns ≡ [] → v.previous ≡ None → Inv v nobody nothing_above
 start v e p =
     record {
       waiting = rw e
@@ -308,16 +308,8 @@ start v e p =
       previous = p;
     }
 
--- a new shaper, a refused one too, has no columns and no previous node
-fresh-columns : (o : Options) → ((new_shaper o).view.columns ≡ []) × ((new_shaper o).view.previous ≡ Nothing)
-fresh-columns o = go (ltb height_limit o.min_row_height) refl
-  where
-    go : (b : Bool) → ltb height_limit o.min_row_height ≡ b → ((new_shaper o).view.columns ≡ []) × ((new_shaper o).view.previous ≡ Nothing)
-    go true q = (rw q, rw q)
-    go false q = (rw q, rw q)
-
 -- for every renderer, every new shaper, a refused one too, and every list of calls
 pub keeps-every-line : (q : Renderer) (o : Options) (ks : List Item) → KeepsEveryLine (ours q) (new_shaper o).view ks
 keeps-every-line q o ks =
-    let f = fresh-columns o in
+    let f = new-bare o in
     record { fresh = f.0; calls = keeps q (new_shaper o).view nobody nothing_above (start (new_shaper o).view f.0 f.1) ks }

@@ -5,10 +5,10 @@ use mathlib.Core.Bool.{false, false≢true}
 use mathlib.Core.List.{List, [], ◌∷◌, ◌++◌, map}
 use native.Mathlib.Omega.{arith}
 use lib.ListN.{length, get_or, drop, replicate}
+use Rattle.std.specs.Prelude.{Some, None}
 use Rattle.column.specs.declared.Column.{Column}
 use Rattle.column.specs.declared.Column.TheVariants as column
-use Rattle.column.specs.declared.Found.{Found}
-use Rattle.column.specs.declared.Found.TheVariants.{At, Nothing}
+use Rattle.column.specs.Found.{Found}
 use Rattle.column.specs.Columns.{column_limit, SpareEmpty, empty_slot, slot_of, carried}
 use Rattle.column.specs.declared.Started.TheVariants.{NotWaiting, Unnamed, By}
 use Rattle.column.proofs.Laws.{counted-twice}
@@ -19,16 +19,13 @@ use Rattle.render.specs.declared.render.Ancestor.TheVariants as entry
 use Rattle.render.specs.declared.render.Entry.{Entry}
 use Rattle.render.specs.Refusals.{no_column_left, node_line_too_wide}
 use Rattle.shaper.specs.declared.Shaper.{Shaper}
-use Rattle.shaper.specs.declared.Answer.{Answer}
-use Rattle.shaper.specs.Shaper.{reserve, is_nothing, fresh, Fresh}
+use Rattle.shaper.specs.Shaper.{reserve, is_nothing, fresh, Fresh, Answer}
 use Rattle.placing.specs.Placing.{place}
 use Rattle.row_shape.specs.Row.{row}
-use Rattle.preview.specs.declared.PreviewAnswer.{PreviewAnswer}
-use Rattle.width.specs.declared.NewNode.TheVariants.{Node, Absent}
+use Rattle.preview.specs.Promises.{PreviewAnswer}
 use Rattle.width.specs.Width.{width}
 use Rattle.marked.specs.Marked.{m7-row}
-use Rattle.lineage.specs.declared.ShapeAnswer.{ShapeAnswer}
-use Rattle.lineage.specs.Promises.{LentReserves, LentPreview, LentWidth, LentOrigin}
+use Rattle.lineage.specs.Promises.{LentReserves, LentPreview, LentWidth, LentOrigin, ShapeAnswer}
 use Rattle.history.specs.LentCalls.{LentCall, ReserveRan, RowRan, Met, Ran}
 
 -- "height 1 without staggering", Persistent, Top (01, "Added by us")
@@ -87,11 +84,11 @@ spare-empty o cs n = record { past = past cs; origins = counts cs }
 
 -- the shaper after the reservation
 abbrev pub reserved : Shaper
-reserved = holding (column.Reserved 9 ∷ []) Nothing
+reserved = holding (column.Reserved 9 ∷ []) None
 
 -- and after the row
 abbrev pub ended : Shaper
-ended = holding [] (At 0)
+ended = holding [] (Some 0)
 
 -- what the row call gives
 abbrev pub m7-answer : ShapeAnswer
@@ -132,7 +129,7 @@ reserved_below (suc n) = reserved_below n ++ (column.Reserved n ∷ [])
 
 -- the shaper after reservations of the ids 0 to 63
 abbrev pub full : Shaper
-full = holding (reserved_below column_limit) Nothing
+full = holding (reserved_below column_limit) None
 
 -- a new id gives 2, and nothing is stored
 pub full_refuses : LentReserves full 64 full no_column_left
@@ -149,10 +146,10 @@ full_refuses =
 
 -- 64 columns, the last of them Empty
 abbrev pub last_empty : Shaper
-last_empty = holding (reserved_below 63 ++ (column.Empty ∷ [])) Nothing
+last_empty = holding (reserved_below 63 ++ (column.Empty ∷ [])) None
 
 -- a new id takes "the first Empty column" (01, point 3)
-pub last-empty-reserves : LentReserves last_empty 64 (holding (reserved_below 63 ++ (column.Reserved 64 ∷ [])) Nothing) 0
+pub last-empty-reserves : LentReserves last_empty 64 (holding (reserved_below 63 ++ (column.Reserved 64 ∷ [])) None) 0
 unfolding reserve
 last-empty-reserves =
     record {
@@ -167,17 +164,17 @@ last-empty-reserves =
 -- ---- widths, the Rust's figures: "node and entries may each be absent" (01, point 3)
 
 -- without a node, on a new shaper
-pub width-without-node : LentWidth (fresh options) Absent [] (record { refusal = 0; width = 0 })
+pub width-without-node : LentWidth (fresh options) None [] (record { refusal = 0; width = 0 })
 unfolding width
 width-without-node = refl
 
 -- with one that no column holds
-pub width-with-node : LentWidth (fresh options) (Node 9) [] (record { refusal = 0; width = 1 })
+pub width-with-node : LentWidth (fresh options) (Some 9) [] (record { refusal = 0; width = 1 })
 unfolding width
 width-with-node = refl
 
 -- with one that a column holds
-pub width-with-held-node : LentWidth reserved (Node 9) [] (record { refusal = 0; width = 1 })
+pub width-with-held-node : LentWidth reserved (Some 9) [] (record { refusal = 0; width = 1 })
 unfolding width
 width-with-held-node = refl
 
@@ -189,14 +186,14 @@ showing n c w s = record { refusal = n; node_column = c; width = w; slots = s.sl
 
 -- "Column 0 holds Parent 7: .. row 7 (Parent 7, Parent 8)" (01, M10)
 abbrev pub m10-shaper : Shaper
-m10-shaper = holding (column.Parent 7 ∷ []) (At 0)
+m10-shaper = holding (column.Parent 7 ∷ []) (Some 0)
 
 abbrev pub m10-entries : List Entry
 m10-entries = record { ancestor = entry.Parent 7 } ∷ record { ancestor = entry.Parent 8 } ∷ []
 
 -- the columns after it, named by its row
 abbrev pub m10-after : Shaper
-m10-after = holding_by 7 (column.Parent 7 ∷ column.Parent 8 ∷ []) (At 0)
+m10-after = holding_by 7 (column.Parent 7 ∷ column.Parent 8 ∷ []) (Some 0)
 
 -- its node line has 2 cells
 pub m10-previewed : LentPreview m10-shaper 7 m10-entries (showing 0 0 2 m10-after)
@@ -206,7 +203,7 @@ m10-previewed =
 
 -- 64 columns, the first of them Parent 0
 abbrev pub full-after : Shaper
-full-after = holding (column.Parent 0 ∷ drop 1 (reserved_below column_limit)) (At 0)
+full-after = holding (column.Parent 0 ∷ drop 1 (reserved_below column_limit)) (Some 0)
 
 -- with 64 columns taken, row 0 (Parent 0) finds its own
 pub full-previewed : LentPreview full 0 (record { ancestor = entry.Parent 0 } ∷ []) (showing 0 0 64 full-after)

@@ -4,14 +4,14 @@ use mathlib.Core.Path.{◌≡◌, ap, ◌∙◌}
 use mathlib.Core.List.{List}
 use native.Mathlib.Omega.{arith}
 use lib.ListN.{length, length-map}
+use Rattle.std.specs.Prelude.{Option}
 use Rattle.render.specs.declared.render.Entry.{Entry}
 use Rattle.shaper.specs.declared.Shaper.{Shaper}
 use Rattle.shaper.specs.Shaper.{view_of}
 use Rattle.row_shape.specs.Row.{RowReply, no_shape}
-use Rattle.preview.specs.declared.PreviewAnswer.{PreviewAnswer}
+use Rattle.preview.specs.Promises.{PreviewAnswer}
+use Rattle.width.specs.Width.{WidthAnswer}
 use Rattle.preview.specs.Preview.{PreviewReply}
-use Rattle.width.specs.declared.NewNode.{NewNode}
-use Rattle.width.specs.declared.WidthAnswer.{WidthAnswer}
 use Rattle.glyphs.specs.declared.Renderer.{Renderer}
 use Rattle.glyphs.specs.Cells.{glyphs_of}
 use Rattle.output.specs.declared.TextState.{TextState}
@@ -19,9 +19,7 @@ use Rattle.output.specs.Output.{text_view_of}
 use Rattle.text.specs.Text.{TextReply}
 use Rattle.marked.specs.EntryCounts.{Drawable, GiveThree}
 use Rattle.marked.proofs.FewEntries.{above-eight}
-use Rattle.lineage.specs.declared.ShapeAnswer.{ShapeAnswer}
-use Rattle.lineage.specs.declared.LengthAnswer.{LengthAnswer}
-use Rattle.lineage.specs.Promises.{ancestors, LentRows, LentPreview, LentWidth, LentTexts}
+use Rattle.lineage.specs.Promises.{ancestors, LentRows, LentPreview, LentWidth, LentTexts, ShapeAnswer, LengthAnswer}
 
 module _ (l : List Entry) (many : 8 < length l) where
   three : GiveThree (ancestors l)
@@ -44,7 +42,7 @@ module _ (l : List Entry) (many : 8 < length l) where
       (number, ap (λ (x : PreviewReply). x.column) e, ap (λ (x : PreviewReply). x.width) e, same.0, same.1)
 
   -- the width call
-  pub lent-width-three : (s : Shaper) (n : NewNode) (r : WidthAnswer) → LentWidth s n l r → r ≡ record { refusal = 3; width = 0 }
+  pub lent-width-three : (s : Shaper) (n : Option ℕ) (r : WidthAnswer) → LentWidth s n l r → r ≡ record { refusal = 3; width = 0 }
   lent-width-three s n r k = k ∙ three.in-width (view_of s) n
 
   -- the text call, with a mark and a message that pass

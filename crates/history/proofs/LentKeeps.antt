@@ -4,8 +4,7 @@ use mathlib.Core.List.{List, [], ◌∷◌, map}
 use Rattle.render.specs.declared.types.Options.{Options}
 use Rattle.render.specs.declared.types.RowShape.{RowShape}
 use Rattle.shaper.specs.declared.Shaper.{Shaper}
-use Rattle.shaper.specs.declared.Answer.{Answer}
-use Rattle.shaper.specs.Shaper.{View, Reply, view_of, origin, Fresh}
+use Rattle.shaper.specs.Shaper.{View, Reply, view_of, origin, Fresh, Answer}
 use Rattle.row_shape.specs.Row.{RowReply}
 use Rattle.text.specs.Text.{TextReply}
 use Rattle.glyphs.specs.declared.Renderer.{Renderer}

@@ -7,8 +7,8 @@ use mathlib.Core.Bool.{true, false, false≢true}
 use mathlib.Core.List.{List, [], ◌∷◌, ◌++◌}
 use native.Mathlib.Omega.{arith}
 use lib.ListN.{replicate}
+use Rattle.std.specs.Prelude.{Some}
 use Rattle.column.specs.declared.Column.TheVariants as column
-use Rattle.column.specs.declared.Found.TheVariants.{At}
 use Rattle.render.specs.declared.render.Ancestor.{Ancestor}
 use Rattle.render.specs.declared.render.Ancestor.TheVariants as entry
 use Rattle.render.specs.declared.render.Entry.{Entry}
@@ -29,7 +29,7 @@ use Rattle.output.specs.declared.TextState.{TextState}
 use Rattle.output.specs.Measure.{measure_of}
 use Rattle.text.specs.Text.{text_with}
 use Rattle.marked.specs.MarkedListing.{bytes, page, m1-mark}
-use Rattle.lineage.specs.declared.ShapeAnswer.{ShapeAnswer}
+use Rattle.lineage.specs.Promises.{ShapeAnswer}
 use Rattle.history.specs.LentCalls.{TextRun, LentCall, RowRan, TextRan, Met, Ran}
 use Rattle.history.proofs.LentCase.{options, new, holding, holding_by, spare-empty}
 
@@ -46,15 +46,15 @@ counted b (suc n) = b ∷ counted (suc b) n
 
 -- after row 1 (Parent 2, Ancestor 3): "previous=0 columns=Parent 2,Ancestor 3"
 abbrev pub after-row : Shaper
-after-row = holding_by 1 (column.Parent 2 ∷ column.Ancestor 3 ∷ []) (At 0)
+after-row = holding_by 1 (column.Parent 2 ∷ column.Ancestor 3 ∷ []) (Some 0)
 
 -- after the text call of node 2 (Anonymous): "previous=0 columns=Empty,Ancestor 3"
 abbrev pub after_text : Shaper
-after_text = holding_by 1 (column.Empty ∷ column.Ancestor 3 ∷ []) (At 0)
+after_text = holding_by 1 (column.Empty ∷ column.Ancestor 3 ∷ []) (Some 0)
 
 -- after the text call of node 3 without entries: "previous=1 columns="
 abbrev pub at-end : Shaper
-at-end = holding [] (At 1)
+at-end = holding [] (Some 1)
 
 -- ---- an accepted row with entries
 

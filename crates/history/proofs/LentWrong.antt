@@ -6,7 +6,7 @@ use mathlib.Core.List.{List, [], ◌∷◌}
 use mathlib.Core.Option.{Option, some, some-injective}
 use native.Mathlib.Omega.{arith}
 use lib.ListN.{length, get_or, set}
-use Rattle.column.specs.declared.Found.TheVariants.{At}
+use Rattle.std.specs.Prelude.{Some, None}
 use Rattle.column.specs.Columns.{rank, id_of, origin_at, empty_slot}
 use Rattle.column.specs.declared.Column.TheVariants as column
 use Rattle.column.specs.declared.Slot.{Slot}
@@ -19,15 +19,12 @@ use Rattle.shaper.specs.Shaper.{Reply, reserve, fresh, reserved_slot}
 use Rattle.placing.specs.Placing.{place}
 use Rattle.row_shape.specs.Row.{RowReply, row}
 use Rattle.preview.specs.Preview.{PreviewReply}
-use Rattle.width.specs.declared.NewNode.TheVariants.{Node, Absent}
-use Rattle.width.specs.declared.WidthAnswer.{WidthAnswer}
-use Rattle.width.specs.Width.{width}
+use Rattle.width.specs.Width.{width, WidthAnswer}
 use Rattle.glyphs.specs.Cells.{choice_of, bytes_of}
 use Rattle.output.specs.declared.TextState.{TextState}
 use Rattle.output.specs.Measure.{measure_of}
 use Rattle.text.specs.Text.{TextReply, text_with}
-use Rattle.lineage.specs.declared.LengthAnswer.{LengthAnswer}
-use Rattle.lineage.specs.Promises.{LentReserves, LentRows, LentPreview, LentWidth, LentOrigin}
+use Rattle.lineage.specs.Promises.{LentReserves, LentRows, LentPreview, LentWidth, LentOrigin, LengthAnswer}
 use Rattle.history.specs.LentCalls.{TextRun, TextRan, Met}
 use Rattle.history.proofs.LentCase.{options, holding, reserved, m7-answer, full, last_empty, showing, m10-shaper, m10-entries, m10-after, full-after, counting, beyond}
 use Rattle.history.proofs.LentTextCase.{row-entries, row-answer, after_text, at-end, too_many, too-many-answer, too_short, flushing}
@@ -56,12 +53,12 @@ unfolding row place
 not-row-unstored k = let z : ◌≡◌ {A = ℕ} 1 0 = ap (λ (a : RowReply). length a.view.columns) k.reply in omega arith
 
 -- "a row that leaves the columns untouched": the previous node column is right (right: LentTextCase.row-accepted)
-pub not-row-columns-untouched : LentRows (fresh options) 1 row-entries (holding [] (At 0)) row-answer → ⊥
+pub not-row-columns-untouched : LentRows (fresh options) 1 row-entries (holding [] (Some 0)) row-answer → ⊥
 unfolding row place
 not-row-columns-untouched k = let z : ◌≡◌ {A = ℕ} 0 2 = ap (λ (a : RowReply). length a.view.columns) k.reply in omega arith
 
 -- the columns are right, and carry no node: "carries the node in whose accepted row its id was first named" (02, R-3; right: LentTextCase.row-accepted)
-pub not-row-without-origins : LentRows (fresh options) 1 row-entries (holding (column.Parent 2 ∷ column.Ancestor 3 ∷ []) (At 0)) row-answer → ⊥
+pub not-row-without-origins : LentRows (fresh options) 1 row-entries (holding (column.Parent 2 ∷ column.Ancestor 3 ∷ []) (Some 0)) row-answer → ⊥
 unfolding row place
 not-row-without-origins k = let z : ◌≡◌ {A = ℕ} 0 1 = ap (λ (a : RowReply). origin_at a.view.origins 0) k.reply in omega arith
 
@@ -70,7 +67,7 @@ abbrev left_in : Shaper → ℕ → Shaper
 left_in s i = record { slots = set s.slots i (record { column = column.Empty; origin = 7 }); count = s.count; previous_node_column = s.previous_node_column; options = s.options }
 
 -- an accepted row that leaves a node in an Empty slot behind the columns (right: LentCase.rows)
-pub not-origin-left-behind : LentRows reserved 9 [] (left_in (holding [] (At 0)) 5) m7-answer → ⊥
+pub not-origin-left-behind : LentRows reserved 9 [] (left_in (holding [] (Some 0)) 5) m7-answer → ⊥
 unfolding row place reserve
 not-origin-left-behind k = let z : ◌≡◌ {A = ℕ} 7 0 = (k.rest refl).origins 5 in omega arith
 
@@ -117,12 +114,12 @@ not-refused-reservation-stored k =
 -- ---- widths
 
 -- a width without a node as if one were there (right: LentCase.width-without-node; with the node LentCase.width-with-node)
-pub not-absent-node-counted : LentWidth (fresh options) Absent [] (record { refusal = 0; width = 1 }) → ⊥
+pub not-absent-node-counted : LentWidth (fresh options) None [] (record { refusal = 0; width = 1 }) → ⊥
 unfolding width
 not-absent-node-counted k = let z : ◌≡◌ {A = ℕ} 1 0 = ap (λ (a : WidthAnswer). a.width) k in omega arith
 
 -- "a width that is invented": one more than the columns (right: LentCase.width-with-held-node)
-pub not-width-invented : LentWidth reserved (Node 9) [] (record { refusal = 0; width = 2 }) → ⊥
+pub not-width-invented : LentWidth reserved (Some 9) [] (record { refusal = 0; width = 2 }) → ⊥
 unfolding width
 not-width-invented k = let z : ◌≡◌ {A = ℕ} 2 1 = ap (λ (a : WidthAnswer). a.width) k in omega arith
 

@@ -30,9 +30,9 @@ pad_stroke pad.Parent = Solid
 
 -- no pad cell is another glyph
 pub pad-known : (x : PadLine) → pad_stroke x ≢ Other
-pad-known pad.Blank e = let z : ◌≡◌ {A = ℕ} 0 1 = cc in omega arith
-pad-known pad.Ancestor e = let z : ◌≡◌ {A = ℕ} 0 1 = cc in omega arith
-pad-known pad.Parent e = let z : ◌≡◌ {A = ℕ} 0 1 = cc in omega arith
+pad-known pad.Blank e = cc
+pad-known pad.Ancestor e = cc
+pad-known pad.Parent e = cc
 
 -- a line of another kind is passed over
 skip : (q : Renderer) (g : RowShape) (k : ℕ) (l : Line) (ls : List Line) → letter l ≢ k

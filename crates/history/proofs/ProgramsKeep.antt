@@ -19,9 +19,7 @@ use Rattle.output.specs.Output.{TextView}
 use Rattle.text.specs.Text.{TextReply}
 use Rattle.glyphs.specs.Cells.{keep}
 use Rattle.prefix_lines.specs.Listing.{listing_bytes}
-use Rattle.record.specs.declared.Outcome.{Outcome}
-use Rattle.record.specs.declared.Outcome.TheVariants.{Ready, Ended, Refused}
-use Rattle.record.specs.Record.{RecordView, next_record}
+use Rattle.record.specs.Record.{RecordView, Outcome, Ready, Ended, Refused, next_record}
 use Rattle.steps.specs.Steps.{program_options, ProgressView, stepped, page_row, page_step, listing_checks, listing_row, listing_step, on_record}
 use Rattle.steps.specs.Files.{Running, step_on, after_step, written_by, reads_of, step_by_step, page_of, listing_of, listing_room}
 use Rattle.steps.proofs.FilePages.{over-long}

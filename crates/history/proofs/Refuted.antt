@@ -107,15 +107,13 @@ pub not-blank-heads : Fails blank_heads (Meets blank_heads) both (Row 1 (Parent 
 unfolding row place choice_of
 not-blank-heads k =
     let e = k.1.0 refl 0 in
-    let z : ◌≡◌ {A = ℕ} 0 1 = cc in
-    omega arith
+    cc
 
 pub not-dashed-over-node : Fails dashed_over_node (Meets dashed_over_node) both (Row 1 (Ancestor 2 ∷ []) ∷ Row 2 [] ∷ [])
 unfolding row place choice_of
 not-dashed-over-node k =
     let e = k.1.0 refl 0 in
-    let z : ◌≡◌ {A = ℕ} 0 1 = cc in
-    omega arith
+    cc
 
 -- ---- who started a line (02, R-3)
 

@@ -11,11 +11,13 @@ use borrow.Author.Tests.{eqb-true, eqb-false, ltb-true, ltb-false, lt-ltb, ne_eq
 use lib.Dec.{eqb, ltb}
 use lib.ListN.{length, take, replicate, get_or-eq_default}
 use lib.Seq.{take_at}
+use Rattle.std.specs.Prelude.{Some, None, unwrap_or}
+use Rattle.std.proofs.lemmas.Option.{none-some, cond_some}
+use Rattle.std.proofs.lemmas.Simd.{map-map}
 use Rattle.column.specs.declared.Column.{Column}
 use Rattle.column.specs.declared.Column.TheVariants.{Empty, Blocked, Reserved, Ancestor, Parent}
-use Rattle.column.specs.declared.Found.{Found}
-use Rattle.column.specs.declared.Found.TheVariants.{At, Nothing}
-use Rattle.column.specs.Columns.{column_limit, rank, id_of, is_named, find, vacant, or_else, merge, is_reserved, is_parent, unblock, keep, trim, at, put, origin_at}
+use Rattle.column.specs.Found.{Found}
+use Rattle.column.specs.Columns.{column_limit, rank, id_of, is_named, find, vacant, merge, is_reserved, is_parent, unblock, keep, trim, at, put, origin_at}
 use Rattle.column.proofs.Positions.{at-put-same, at-put-other, length-put, past_end}
 use Rattle.render.specs.declared.render.Ancestor.{Ancestor as Entry}
 use Rattle.render.specs.declared.render.NodeLine.TheVariants as node
@@ -43,11 +45,11 @@ use Rattle.history.proofs.Lines.{pad_stroke, pad-known}
 use Rattle.history.proofs.Waits.{Wait-in, waits-carried, rearranged, spot-alone, walk-keeps, bare-keeps}
 
 -- ---- the swap
-swapped-keeps : (f : Found) (c : ℕ) (cs : List Column) (os : ℕ → ℕ) (w : Waiting) → ((p : ℕ) → f ≡ At p → at cs c ≡ Empty) → Wait-in cs os w
+swapped-keeps : (f : Found) (c : ℕ) (cs : List Column) (os : ℕ → ℕ) (w : Waiting) → ((p : ℕ) → f ≡ Some p → at cs c ≡ Empty) → Wait-in cs os w
     → Wait-in (swapped f c cs) (λ i. os (source f c i)) w
-swapped-keeps Nothing c cs os w h W = W
-swapped-keeps (At p) c cs os w h W =
-    waits-carried (swap c p cs) (λ i. os (flip c p i)) (λ i. os (source (At p) c i)) w (λ i n. ap os (from i n (eqb i c) refl (eqb i p) refl))
+swapped-keeps None c cs os w h W = W
+swapped-keeps (Some p) c cs os w h W =
+    waits-carried (swap c p cs) (λ i. os (flip c p i)) (λ i. os (source (Some p) c i)) w (λ i n. ap os (from i n (eqb i c) refl (eqb i p) refl))
     (rearranged cs (swap c p cs) os w (flip c p) (flip-flip c p) (λ i. ap id_of (at-swap c p cs i)) (λ i. ap (λ (x : Column). wait_of x (os (flip c p i))) (at-swap c p cs i)) W)
   where
     -- the column given up is Empty, so that no line comes to it
@@ -68,14 +70,14 @@ settle-moves c (e ∷ []) cs os w i x W b h = (pulled (column_of_parent c e cs) 
     inside : Holds (enter c e cs) i x
     inside = enter-stays c e cs i x h
 
-    pulled : (p : ℕ) → Spot (entry_id e) cs p → entry_id e ≡ some x → c < i → Holds (swapped (cond (ltb c p) (At p) Nothing) c (enter c e cs)) c x
+    pulled : (p : ℕ) → Spot (entry_id e) cs p → entry_id e ≡ some x → c < i → Holds (swapped (cond (ltb c p) (Some p) None) c (enter c e cs)) c x
     pulled p S o l =
         let q : i ≡ p = spot-alone (entry_id e) cs os w p W S i x o h in
         rw (lt-ltb c p (omega arith))
         (ap id_of (at-swap c p (enter c e cs) c ∙ ap (at (enter c e cs)) (flip-left c p ∙ sym q)) ∙ inside)
 
     stays : (p : ℕ) → Spot (entry_id e) cs p → (entry_id e ≡ some x → c < i → ⊥) → (t : Bool) → ltb c p ≡ t
-        → Holds (swapped (cond t (At p) Nothing) c (enter c e cs)) i x
+        → Holds (swapped (cond t (Some p) None) c (enter c e cs)) i x
     stays p S n false t = inside
     stays p S n true t =
         ap id_of (at-swap c p (enter c e cs) i ∙ ap (at (enter c e cs)) (flip-else c p i not-c not-p)) ∙ inside
@@ -163,10 +165,6 @@ pad c = pad_stroke (pad_of c)
 abbrev pub Shows : List Stroke → List Column → Type 0
 Shows f cs = (i : ℕ) → cell f i ≡ pad (at cs i)
 
-map-map : {A B C : Type 0} (g : B → C) (f : A → B) (l : List A) → map g (map f l) ≡ map (λ x. g (f x)) l
-map-map g f [] = refl
-map-map g f (a ∷ l) = ap (λ r. g (f a) ∷ r) (map-map g f l)
-
 map-cells : {A B : Type 0} (h : A → B) (f : ℕ → A) (k w : ℕ) → map h (cells_from f k w) ≡ cells_from (λ i. h (f i)) k w
 map-cells h f k zero = refl
 map-cells h f k (suc w) = ap (λ r. h (f k) ∷ r) (map-cells h f (suc k) w)
@@ -218,16 +216,12 @@ pub never_other : (f : List Stroke) (cs : List Column) → Shows f cs → (i : �
 never_other f cs S i e = pad-known (pad_of (at cs i)) (sym (S i) ∙ e)
 
 -- ---- a whole row, placed: its lines and its columns
-pub gave-in : (c : ℕ) (es : List Entry) (cs : List Column) (q : ℕ) → gave_up c es cs ≡ At q → q < length (walk c es cs)
-gave-in c [] cs q e = let z : ◌≡◌ {A = ℕ} 0 1 = cc in absurd (omega arith)
-gave-in c (e ∷ f ∷ es) cs q h = let z : ◌≡◌ {A = ℕ} 0 1 = cc in absurd (omega arith)
-gave-in c (e ∷ []) cs q h = go (ltb c (column_of_parent c e cs)) h
-  where
-    go : (t : Bool) → cond t (At (column_of_parent c e cs)) Nothing ≡ At q → q < length (enter c e cs)
-    go true k =
-        let z : column_of_parent c e cs ≡ q = cc in
-        omega (arith, length-put cs (column_of_parent c e cs) (merge (at cs (column_of_parent c e cs)) (column_of e)))
-    go false k = let z : ◌≡◌ {A = ℕ} 0 1 = cc in absurd (omega arith)
+pub gave-in : (c : ℕ) (es : List Entry) (cs : List Column) (q : ℕ) → gave_up c es cs ≡ Some q → q < length (walk c es cs)
+gave-in c [] cs q e = absurd (none-some q e)
+gave-in c (e ∷ f ∷ es) cs q h = absurd (none-some q h)
+gave-in c (e ∷ []) cs q h =
+    let k : ℕ = column_of_parent c e cs in
+    omega (arith, (cond_some (ltb c k) k q h).1, length-put cs k (merge (at cs k) (column_of e)))
 
 module _ (v : View) (n : ℕ) (es : List Entry) where
   abbrev c : ℕ
@@ -251,9 +245,9 @@ module _ (v : View) (n : ℕ) (es : List Entry) where
   long : c < width
   long = omega (arith, walk_more c es bare, length-put v.columns c Empty)
 
-  swap-past : (f : Found) → ((q : ℕ) → f ≡ At q → q < width) → (i : ℕ) → width ≤ i → at (swapped f c ws) i ≡ Empty
-  swap-past Nothing h i k = past_end ws i k
-  swap-past (At q) h i k =
+  swap-past : (f : Found) → ((q : ℕ) → f ≡ Some q → q < width) → (i : ℕ) → width ≤ i → at (swapped f c ws) i ≡ Empty
+  swap-past None h i k = past_end ws i k
+  swap-past (Some q) h i k =
       let l : q < width = h q refl in
       at-swap c q ws i ∙ ap (at ws) (flip-else c q i (λ z. omega (arith, long)) (λ z. omega arith)) ∙ past_end ws i k
 
@@ -262,7 +256,7 @@ module _ (v : View) (n : ℕ) (es : List Entry) where
   cell_at i =
       let draws : ℕ → Drawn = λ i. kind_of (draws_at (gave_up c es bare) c es bare i) in
       let r : AncestorColumnBounds = bounds_of (cells_from draws 0 width) c in
-      let s : Swap = record { given_up = gave_up c es bare; was_direct = is_parent (at bare (or_else (gave_up c es bare) c)) } in
+      let s : Swap = record { given_up = gave_up c es bare; was_direct = is_parent (at bare (unwrap_or (gave_up c es bare) c)) } in
       cell_of (linked r s) r s i (draws i) (at bare i) (at settled i)
 
   abbrev cells : List Cell
@@ -286,10 +280,10 @@ module _ (v : View) (n : ℕ) (es : List Entry) where
       blank i h = ap (λ (x : Column). pad_stroke (foot_pad v.style.dash_style (pad_of x))) (swap-past (gave_up c es bare) (gave-in c es bare) i h)
 
   -- over the node the head line is solid or blank, as the node's column was
-  over-node : (b : Bool) (f : Found) → Where n v.columns f → pad_stroke (node_to_pad (head f v.columns) node.Node) ≡ solid (pad (at v.columns (or_else f (cond b (staggered v.previous v.columns) (vacant v.columns)))))
-  over-node true Nothing (away h) = rw (at-staggered v.previous v.columns)
-  over-node false Nothing (away h) = rw (at-vacant v.columns)
-  over-node b (At j) (there k h) = held (at v.columns j) h
+  over-node : (b : Bool) (f : Found) → Where n v.columns f → pad_stroke (node_to_pad (head f v.columns) node.Node) ≡ solid (pad (at v.columns (unwrap_or f (cond b (staggered v.previous v.columns) (vacant v.columns)))))
+  over-node true None (away h) = rw (at-staggered v.previous v.columns)
+  over-node false None (away h) = rw (at-vacant v.columns)
+  over-node b (Some j) (there k h) = held (at v.columns j) h
     where
       held : (x : Column) → id_of x ≡ some n → pad_stroke (node_to_pad (is_reserved x) node.Node) ≡ solid (pad x)
       held Empty q = absurd (none-ne-some n q)

@@ -5,14 +5,13 @@ use mathlib.Core.Logic.{◌≢◌}
 use mathlib.Core.Bool.{Bool, true, false, cond, ◌||◌, false≢true}
 use mathlib.Core.List.{List, [], ◌∷◌}
 use mathlib.Core.Option.{Option, none, some, none-ne-some, some-injective}
-use native.Mathlib.Omega.{arith}
 use native.Mathlib.Decide.{ℕ_discrete}
 use borrow.Author.Tests.{eqb-true, eq-eqb, ne_eqb}
 use lib.Dec.{eqb}
+use Rattle.std.specs.Prelude.{Some, None}
 use Rattle.column.specs.declared.Column.{Column}
 use Rattle.column.specs.declared.Column.TheVariants.{Empty, Blocked, Reserved, Ancestor, Parent}
-use Rattle.column.specs.declared.Found.{Found}
-use Rattle.column.specs.declared.Found.TheVariants.{At, Nothing}
+use Rattle.column.specs.Found.{Found}
 use Rattle.column.specs.Columns.{id_of, is_named, find, vacant, merge, at, put, origin_at}
 use Rattle.slices.proofs.Places.{put_other}
 use Rattle.column.proofs.Positions.{at-put-same, at-put-other}
@@ -112,10 +111,10 @@ waits-ext cs os w w' h W =
     record { held = λ x n. W.held x (λ z. n (h x ∙ z)); waits = λ i x q. h x ∙ W.waits i x q; one = W.one }
 
 pub named≢idle : (m : ℕ) → AsNamed m ≢ Idle
-named≢idle m e = let z : ◌≡◌ {A = ℕ} 0 1 = cc in omega arith
+named≢idle m e = cc
 
 pub reserved≢idle : AsReserved ≢ Idle
-reserved≢idle e = let z : ◌≡◌ {A = ℕ} 0 1 = cc in omega arith
+reserved≢idle e = cc
 
 -- an id that a column holds waits
 pub busy : (c : Column) (o n : ℕ) → id_of c ≡ some n → wait_of c o ≢ Idle
@@ -282,8 +281,8 @@ pub reserved-carries : (n : ℕ) (cs : List Column) (os : List ℕ) (i : ℕ) �
 reserved-carries n cs os i = go (find n cs)
   where
     go : (f : Found) → is_named (at (reserved_in f n cs) i) ≡ true → origin_at (reserved_origins_in f cs os) i ≡ origin_at os i
-    go (At j) h = refl
-    go Nothing h = put_other 0 os (vacant cs) 0 i not_there
+    go (Some j) h = refl
+    go None h = put_other 0 os (vacant cs) 0 i not_there
       where
         not_there : i ≢ vacant cs
         not_there z = let y : at (put cs (vacant cs) (Reserved n)) i ≡ Reserved n = rw z (at-put-same cs (vacant cs) (Reserved n)) in false≢true (sym (ap is_named y) ∙ h)

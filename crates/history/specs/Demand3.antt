@@ -1,11 +1,10 @@
 -- Demand 3: a drawn history keeps every line. One statement about a whole list of calls on one shaper, refused ones included, over an arbitrary machine.
-use Rattle.std.specs.Prelude.{ℕ, suc, ◌<◌, ◌≡◌, ◌≢◌, ◌↔◌, Bool, true, false, cond, List, [], ◌∷◌, eqb, length, get_or}
+use Rattle.std.specs.Prelude.{ℕ, suc, ◌<◌, ◌≡◌, ◌≢◌, ◌↔◌, Bool, true, false, cond, List, [], ◌∷◌, eqb, length, get_or, Some, None}
 use Rattle.std.proofs.Math.Option.{some}
 use Rattle.column.specs.declared.Column.{Column}
 use Rattle.column.specs.declared.Column.TheVariants.{Empty, Blocked, Reserved, Ancestor, Parent}
-use Rattle.column.specs.declared.Found.{Found}
-use Rattle.column.specs.declared.Found.TheVariants.{At, Nothing}
 use Rattle.column.specs.declared.Started.{Started}
+use Rattle.column.specs.Found.{Found}
 use Rattle.column.specs.Columns.{at, id_of, origin_at}
 use Rattle.render.specs.declared.render.Ancestor.{Ancestor as Entry}
 use Rattle.render.specs.Entries.{entry_id}
@@ -85,7 +84,7 @@ pub record Above : Type 0 where
 
 -- the line above the first row counts as blank
 abbrev pub nothing_above : Above
-nothing_above = record { foot = []; node = Nothing }
+nothing_above = record { foot = []; node = None }
 
 module _ (M : Machine) where
   -- the columns after a call
@@ -106,7 +105,7 @@ module _ (M : Machine) where
 
   -- what the accepted row before left, a, stays where nothing is drawn
   abbrev pub above_after : M.State → M.Item → Above → Above
-  above_after s k a = cond (draws s k) (record { foot = M.foot s k; node = At (M.node s k) }) a
+  above_after s k a = cond (draws s k) (record { foot = M.foot s k; node = Some (M.node s k) }) a
 
   -- a clause: what is claimed of the call k in the state s, where w are the ids that wait before it and a is what the accepted row before left
   abbrev pub Clause : Type 1
@@ -159,7 +158,7 @@ module _ (M : Machine) where
 
   -- "the first": none left of it was Empty, but that "the previous node's column is then skipped" by staggering
   abbrev pub FirstColumn : Clause
-  FirstColumn s w a k = draws s k ≡ true → w (call_id (M.call k)) ≡ Idle → (i : ℕ) → i < M.node s k → at (M.columns s) i ≡ Empty → a.node ≡ At i
+  FirstColumn s w a k = draws s k ≡ true → w (call_id (M.call k)) ≡ Idle → (i : ℕ) → i < M.node s k → at (M.columns s) i ≡ Empty → a.node ≡ Some i
 
   -- an accepted row's foot line "has a stroke exactly in the columns of the ids that wait as named right after that row",
   abbrev pub Strokes : Clause

@@ -9,9 +9,7 @@ use Rattle.row_shape.specs.Row.{no_shape}
 use Rattle.glyphs.specs.declared.Renderer.{Renderer}
 use Rattle.output.specs.declared.TextState.{TextState}
 use Rattle.output.specs.Output.{text_view_of}
-use Rattle.lineage.specs.declared.ShapeAnswer.{ShapeAnswer}
-use Rattle.lineage.specs.declared.LengthAnswer.{LengthAnswer}
-use Rattle.lineage.specs.Promises.{ancestors, LentReserves, LentRows, LentTexts, LentOrigin}
+use Rattle.lineage.specs.Promises.{ancestors, LentReserves, LentRows, LentTexts, LentOrigin, ShapeAnswer, LengthAnswer}
 use Rattle.history.specs.Account.{Reserve, Row, answer_of}
 use Rattle.history.specs.Demand3.{Machine, Clause, waiting_after}
 use Rattle.history.specs.Ours.{Item, Plain, Text, call_of, is_refusal, shape_of, head_line, foot_line}

@@ -6,9 +6,7 @@ use Rattle.render.specs.Mark.{is_mark}
 use Rattle.glyphs.specs.declared.Renderer.{Renderer}
 use Rattle.glyphs.specs.declared.Renderer.TheVariants.{Curved}
 use Rattle.glyphs.specs.Cells.{keep}
-use Rattle.record.specs.declared.Outcome.{Outcome}
-use Rattle.record.specs.declared.Outcome.TheVariants.{Ready, Ended, Refused}
-use Rattle.record.specs.Record.{RecordView, next_record}
+use Rattle.record.specs.Record.{RecordView, Outcome, Ready, Ended, Refused, next_record}
 use Rattle.steps.specs.Steps.{ProgressView, StepReply, page_step, listing_step}
 use Rattle.steps.specs.Files.{Running, started_on, step_on, after_step, page_room, listing_room}
 use Rattle.history.specs.Account.{Call, Row}

@@ -1,15 +1,14 @@
 -- Machines that demand 3 must rule out: ours with one thing wrong. Each breaks the clause named with it; where one is named, no other fails at the first call at
 -- which anything does. They run in `oracle/demand3`, `far_from_own` as `far_from_own`. Where columns, the node's column or lines are wrong, each
 -- column carries what the true machine does for its id, and the query is the true machine's.
-use Rattle.std.specs.Prelude.{ℕ, ◌+◌, ◌-◌, cond, ◌&&◌, List, [], ◌∷◌, ◌++◌, map, reverse, eqb, ltb, length}
+use Rattle.std.specs.Prelude.{ℕ, ◌+◌, ◌-◌, cond, ◌&&◌, List, [], ◌∷◌, ◌++◌, map, reverse, eqb, ltb, length, Some, None}
 use Rattle.std.proofs.Math.Option.{Option, none, some}
 use Rattle.slices.specs.Lists.{put_with}
 use Rattle.column.specs.declared.Column.{Column}
 use Rattle.column.specs.declared.Column.TheVariants.{Empty, Blocked, Reserved, Ancestor, Parent}
-use Rattle.column.specs.declared.Found.{Found}
-use Rattle.column.specs.declared.Found.TheVariants.{At, Nothing}
 use Rattle.column.specs.declared.Started.{Started}
 use Rattle.column.specs.declared.Started.TheVariants.{NotWaiting, Unnamed, By}
+use Rattle.column.specs.Found.{Found}
 use Rattle.column.specs.Columns.{id_of, is_empty, first, find, unblock, trim, reset, at, put, origin_at}
 use Rattle.render.specs.declared.render.Ancestor.{Ancestor as Entry}
 use Rattle.shaper.specs.Shaper.{View, is_nothing, with_columns, origin}
@@ -105,8 +104,8 @@ after_rows f v (Row n es) = f v n es
 
 -- what is put into the columns only where no column held the id
 abbrev pub if_new : Found → List Column → List Column → List Column
-if_new (At i) new old = old
-if_new Nothing new old = new
+if_new (Some i) new old = old
+if_new None new old = new
 
 -- other columns after a reservation of an id that no column held
 abbrev pub after_reservations : (View → ℕ → List Column) → View → Call → List Column
@@ -153,8 +152,8 @@ reversing = with_columns_after (after_reservations (λ v n. trim (reverse (true_
 
 -- the columns of a row before its end, the id that swapped in a new last one
 abbrev pub pulled_behind : Placed → Found → List Column
-pulled_behind p Nothing = p.settled
-pulled_behind p (At i) = put (put p.settled p.column Empty) (length p.settled) (at p.settled p.column)
+pulled_behind p None = p.settled
+pulled_behind p (Some i) = put (put p.settled p.column Empty) (length p.settled) (at p.settled p.column)
 
 -- `to`: the id of a single entry to the right goes to a new last column
 abbrev pub pulling : Machine
@@ -190,8 +189,8 @@ far v = length v.columns + 7
 
 -- that column where the id is held
 abbrev pub far_if_held : View → Found → ℕ → ℕ
-far_if_held v (At i) c = far v
-far_if_held v Nothing c = c
+far_if_held v (Some i) c = far v
+far_if_held v None c = c
 
 -- `own`: a node whose id waits is reported far to the right
 abbrev pub far_from_own : Machine
@@ -199,8 +198,8 @@ far_from_own = misplacing far_if_held
 
 -- the last column where the id is not held and no column is Empty
 abbrev pub last_if_full : View → Found → ℕ → ℕ
-last_if_full v (At i) c = c
-last_if_full v Nothing c = cond (is_nothing (first is_empty v.columns) && ltb 0 (length v.columns)) (length v.columns - 1) c
+last_if_full v (Some i) c = c
+last_if_full v None c = cond (is_nothing (first is_empty v.columns) && ltb 0 (length v.columns)) (length v.columns - 1) c
 
 -- `empty`: a node that no column holds, where none is Empty, is reported in the last column
 abbrev pub on_another : Machine
@@ -208,8 +207,8 @@ on_another = misplacing last_if_full
 
 -- the column far to the right where the id is not held
 abbrev pub far_if_new : View → Found → ℕ → ℕ
-far_if_new v (At i) c = c
-far_if_new v Nothing c = far v
+far_if_new v (Some i) c = c
+far_if_new v None c = far v
 
 -- `first`: a node that no column holds is reported far to the right
 abbrev pub far_right : Machine
@@ -318,8 +317,8 @@ kept_over_own_row = with_origins_after (λ v n es. origins_by (λ x o. cond (eqb
 
 -- what the columns carry after a row, but that in a swap the node's column c keeps what it carried
 abbrev pub kept_in_swap : Found → ℕ → List ℕ → List ℕ → List ℕ
-kept_in_swap Nothing c os after = after
-kept_in_swap (At p) c os after = put_with 0 after c (origin_at os c)
+kept_in_swap None c os after = after
+kept_in_swap (Some p) c os after = put_with 0 after c (origin_at os c)
 
 -- `waits` and `answers`: in a swap the id leaves its origin behind
 abbrev pub left_behind : Machine

@@ -1,20 +1,19 @@
 -- What copying one entry after the other comes to: a list of at most eight is copied whole, of a longer one there are too many.
 use mathlib.Core.Path.{◌≡◌, refl, sym, ◌∙◌, ap}
 use Prim.Native.Nat.{ℕ, zero, suc, ◌+◌, ◌-◌, ◌<◌, ◌≤◌}
-use native.Mathlib.Nat.{zero-add, suc-add, not-suc-le-zero, le_of_suc-le-suc}
-use native.Mathlib.Numerals.{add-one}
+use native.Mathlib.Nat.{zero-add, suc-add}
 use native.Mathlib.Omega.{arith}
 use mathlib.Core.Bool.{Bool, true, false, cond}
 use mathlib.Core.List.{List, [], ◌∷◌, ◌++◌, append_assoc, append-nil}
 use borrow.Author.Tests.{lt-leb, le-leb, ltb-true, ltb-false, le-ltb}
 use lib.Dec.{leb}
-use lib.ListN.{length, get_or, take, set, replicate, length-append, length-map}
+use lib.ListN.{length, set, replicate, length-append, length-map}
 use lib.Seq.{take_at, set_at}
 use Rattle.render.specs.declared.render.Ancestor.TheVariants.{Anonymous}
 use Rattle.render.specs.declared.render.Entry.{Entry}
 use Rattle.render.specs.declared.render.Entries.{Entries}
 use Rattle.render.specs.Entries.{entry_limit, is_too_many, overlong, listed, pushed, no_entries}
-use Rattle.lineage.specs.Inner.{copied}
+use Rattle.std.specs.List.{fold}
 use Rattle.lineage.specs.Promises.{ancestors, Copies}
 
 abbrev pub none : Entry
@@ -41,23 +40,23 @@ pushed-is p m e l =
 next : (a b c d : ℕ) → suc a ≡ d → a + (suc b + c) ≡ entry_limit → d + (b + c) ≡ entry_limit
 next a b c d e h = omega arith
 
-copied-from : (l p : List Entry) (k : ℕ) → length p + (length l + k) ≡ entry_limit → copied (whole p (length l + k)) l ≡ whole (p ++ l) k
+copied-from : (l p : List Entry) (k : ℕ) → length p + (length l + k) ≡ entry_limit → fold pushed (whole p (length l + k)) l ≡ whole (p ++ l) k
 copied-from [] p k h = rw (zero-add k, append-nil p) refl
 copied-from (e ∷ l) p k h =
     let z : length p < entry_limit = omega arith in
-    ap (λ (m : ℕ). copied (pushed (whole p m) e) l) (suc-add (length l) k)
-    ∙ ap (λ (c : Entries). copied c l) (pushed-is p (length l + k) e z)
+    ap (λ (m : ℕ). fold pushed (pushed (whole p m) e) l) (suc-add (length l) k)
+    ∙ ap (λ (c : Entries). fold pushed c l) (pushed-is p (length l + k) e z)
     ∙ copied-from l (p ++ (e ∷ [])) k (next (length p) (length l) k (length (p ++ (e ∷ []))) (one-long p e) h)
     ∙ ap (λ (q : List Entry). whole q k) (append_assoc p (e ∷ []) l)
 
-few : (l : List Entry) → length l ≤ entry_limit → copied no_entries l ≡ whole l (entry_limit - length l)
+few : (l : List Entry) → length l ≤ entry_limit → fold pushed no_entries l ≡ whole l (entry_limit - length l)
 few l h =
     let s : entry_limit ≡ length l + (entry_limit - length l) = omega arith in
     let z : 0 + (length l + (entry_limit - length l)) ≡ entry_limit = omega arith in
-    ap (λ (m : ℕ). copied (whole [] m) l) s ∙ copied-from l [] (entry_limit - length l) z
+    ap (λ (m : ℕ). fold pushed (whole [] m) l) s ∙ copied-from l [] (entry_limit - length l) z
 
 -- ---- a list that is longer
-stays-many : (l : List Entry) (es : Entries) → es.too_many ≡ true → (copied es l).too_many ≡ true
+stays-many : (l : List Entry) (es : Entries) → es.too_many ≡ true → (fold pushed es l).too_many ≡ true
 stays-many [] es h = h
 stays-many (e ∷ l) es h = stays-many l (pushed es e) (go (leb entry_limit es.count))
   where
@@ -65,7 +64,7 @@ stays-many (e ∷ l) es h = stays-many l (pushed es e) (go (leb entry_limit es.c
     go true = refl
     go false = h
 
-copied-past : (l p : List Entry) (k : ℕ) → length p + k ≡ entry_limit → k < length l → (copied (whole p k) l).too_many ≡ true
+copied-past : (l p : List Entry) (k : ℕ) → length p + k ≡ entry_limit → k < length l → (fold pushed (whole p k) l).too_many ≡ true
 copied-past [] p k h g = absurd (omega arith)
 copied-past (e ∷ l) p zero h g =
     let z : entry_limit ≤ length p = omega arith in
@@ -74,10 +73,10 @@ copied-past (e ∷ l) p (suc m) h g =
     let z : length p < entry_limit = omega arith in
     let a : length (p ++ (e ∷ [])) + m ≡ entry_limit = rw (← one-long p e) (omega arith) in
     let b : m < length l = omega arith in
-    ap (λ (c : Entries). (copied c l).too_many) (pushed-is p m e z) ∙ copied-past l (p ++ (e ∷ [])) m a b
+    ap (λ (c : Entries). (fold pushed c l).too_many) (pushed-is p m e z) ∙ copied-past l (p ++ (e ∷ [])) m a b
 
 -- ---- the copy
-pub copies : (l : List Entry) (r : Entries) → r ≡ copied no_entries l → Copies l r
+pub copies : (l : List Entry) (r : Entries) → r ≡ fold pushed no_entries l → Copies l r
 copies l r e = go (is_too_many (ancestors l)) refl
   where
     same-long : length (ancestors l) ≡ length l
@@ -91,23 +90,3 @@ copies l r e = go (is_too_many (ancestors l)) refl
     go false q =
         let h : length l ≤ entry_limit = omega (arith, ltb-false entry_limit (length (ancestors l)) q, same-long) in
         rw (e ∙ few l h, le-ltb entry_limit (length l) h) (ap ancestors (take_at l (replicate (entry_limit - length l) none) (length l) refl))
-
--- ---- the copy's loop
--- the first i + 1 entries are the first i and one more
-pub one_more : (c : Entries) (ys : List Entry) (i : ℕ) (d : Entry) → i < length ys → copied c (take (i + 1) ys) ≡ pushed (copied c (take i ys)) (get_or ys i d)
-one_more c ys i d l = ap (λ (k : ℕ). copied c (take k ys)) (add-one i) ∙ go c ys i l
-  where
-    go : (c : Entries) (ys : List Entry) (i : ℕ) → i < length ys → copied c (take (suc i) ys) ≡ pushed (copied c (take i ys)) (get_or ys i d)
-    go c [] i l = absurd (not-suc-le-zero l)
-    go c (y ∷ ys) zero l = refl
-    go c (y ∷ ys) (suc i) l = go (pushed c y) ys i (le_of_suc-le-suc l)
-
-take_all : (ys : List Entry) → take (length ys) ys ≡ ys
-take_all [] = refl
-take_all (y ∷ ys) = ap (λ (zs : List Entry). y ∷ zs) (take_all ys)
-
--- all of them are copied
-pub copied-all : (ys : List Entry) (i : ℕ) (r : Entries) → r ≡ copied no_entries (take i ys) → i ≤ length ys → length ys ≤ i → Copies ys r
-copied-all ys i r e h k =
-    let n : i ≡ length ys = omega arith in
-    copies ys r (e ∙ ap (λ (j : ℕ). copied no_entries (take j ys)) n ∙ ap (copied no_entries) (take_all ys))

@@ -3,6 +3,7 @@ use mathlib.Core.Path.{◌≡◌, refl, ◌∙◌, ap}
 use Prim.Native.Nat.{ℕ, zero, suc}
 use mathlib.Core.Bool.{Bool, true, false, cond}
 use mathlib.Core.List.{List}
+use Rattle.std.specs.Prelude.{Option}
 use Rattle.render.specs.declared.render.Ancestor.{Ancestor}
 use Rattle.render.specs.declared.render.Entry.{Entry}
 use Rattle.render.specs.declared.render.Entries.{Entries}
@@ -11,23 +12,18 @@ use Rattle.render.specs.Refusals.{refusal}
 use Rattle.message.specs.Message.{lines_of}
 use Rattle.shaper.specs.declared.Shaper.{Shaper}
 use Rattle.shaper.specs.Shaper.{View, view_of}
-use Rattle.row_shape.specs.declared.RowAnswer.{RowAnswer}
 use Rattle.row_shape.specs.Row.{RowReply, row}
-use Rattle.row_shape.specs.Promises.{Rows}
-use Rattle.preview.specs.declared.PreviewAnswer.{PreviewAnswer}
+use Rattle.row_shape.specs.Promises.{Rows, RowAnswer}
 use Rattle.preview.specs.Preview.{preview, preview_of}
-use Rattle.preview.specs.Promises.{Previews}
-use Rattle.width.specs.declared.NewNode.{NewNode}
-use Rattle.width.specs.declared.WidthAnswer.{WidthAnswer}
-use Rattle.width.specs.Width.{width}
+use Rattle.preview.specs.Promises.{Previews, PreviewAnswer}
+use Rattle.width.specs.Width.{width, WidthAnswer}
 use Rattle.width.specs.Promises.{Widths}
 use Rattle.glyphs.specs.declared.Renderer.{Renderer}
 use Rattle.glyphs.specs.Cells.{glyphs_of}
 use Rattle.output.specs.declared.TextState.{TextState}
 use Rattle.output.specs.Output.{finish, TextView, text_view_of, text_of}
-use Rattle.text.specs.declared.graph_text_renderer.TextAnswer.{TextAnswer}
 use Rattle.text.specs.Text.{TextReply, text_answer, text_lines, text_checks, text_after, text_with, text}
-use Rattle.text.specs.Promises.{Texts}
+use Rattle.text.specs.Promises.{Texts, TextAnswer}
 use Rattle.lineage.specs.Promises.{ancestors, Copies, LentRows, LentPreview, LentWidth, LentTexts}
 
 -- whatever is the same for all lists that are too long is the same for a list and the one that its copy stands for
@@ -68,14 +64,14 @@ previewed s n l es r c h =
     }
 
 -- ---- width
-width-many : (v : View) (n : NewNode) (a b : List Ancestor) → is_too_many a ≡ true → is_too_many b ≡ true → width v n a ≡ width v n b
+width-many : (v : View) (n : Option ℕ) (a b : List Ancestor) → is_too_many a ≡ true → is_too_many b ≡ true → width v n a ≡ width v n b
 unfolding width
 width-many v n a b h k = rw (h, k)
 
-pub width-capped : (v : View) (n : NewNode) (es : List Ancestor) → width v n (capped es) ≡ width v n es
+pub width-capped : (v : View) (n : Option ℕ) (es : List Ancestor) → width v n (capped es) ≡ width v n es
 width-capped v n = capped_same (width v n) (width-many v n)
 
-pub measured : (s : Shaper) (n : NewNode) (l : List Entry) (es : Entries) (r : WidthAnswer) → Copies l es → Widths s n es r → LentWidth s n l r
+pub measured : (s : Shaper) (n : Option ℕ) (l : List Entry) (es : Entries) (r : WidthAnswer) → Copies l es → Widths s n es r → LentWidth s n l r
 measured s n l es r c h = h.reply ∙ ap (width (view_of s) n) c ∙ width-capped (view_of s) n (ancestors l)
 
 -- ---- text

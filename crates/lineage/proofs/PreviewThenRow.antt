@@ -5,11 +5,9 @@ use mathlib.Core.List.{List}
 use Rattle.render.specs.declared.render.Entry.{Entry}
 use Rattle.shaper.specs.declared.Shaper.{Shaper}
 use Rattle.shaper.specs.Shaper.{view_of}
-use Rattle.preview.specs.declared.PreviewAnswer.{PreviewAnswer}
 use Rattle.preview.specs.Preview.{preview_of}
-use Rattle.preview.specs.Promises.{preview_reply_of}
-use Rattle.lineage.specs.declared.ShapeAnswer.{ShapeAnswer}
-use Rattle.lineage.specs.Promises.{LentPreview, LentRows}
+use Rattle.preview.specs.Promises.{preview_reply_of, PreviewAnswer}
+use Rattle.lineage.specs.Promises.{LentPreview, LentRows, ShapeAnswer}
 
 -- "It equals the row call made on a copy" (02, R-1): the row call made next, on the shaper that was previewed and is as it was, gives the
 -- refusal, node column and width that the preview p gave, and leaves the columns that it showed, with what they carry

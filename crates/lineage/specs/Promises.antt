@@ -1,5 +1,5 @@
 -- What the lent calls promise: the same definitions as the by-value calls, at the lent list itself.
-use Rattle.std.specs.Prelude.{ℕ, ◌≤◌, ◌≡◌, false, List, map}
+use Rattle.std.specs.Prelude.{ℕ, ◌≤◌, ◌≡◌, false, List, map, Option, Result, Ok, Err}
 use Rattle.column.specs.declared.Started.{Started}
 use Rattle.column.specs.Columns.{column_limit, SpareEmpty}
 use Rattle.render.specs.declared.render.Ancestor.{Ancestor}
@@ -8,18 +8,17 @@ use Rattle.render.specs.declared.render.Entries.{Entries}
 use Rattle.render.specs.Entries.{listed, capped}
 use Rattle.shaper.specs.declared.Shaper.{Shaper}
 use Rattle.shaper.specs.Shaper.{view_of, origin, Reserves}
-use Rattle.row_shape.specs.Row.{RowReply, row}
-use Rattle.preview.specs.declared.PreviewAnswer.{PreviewAnswer}
-use Rattle.preview.specs.Promises.{Previews}
-use Rattle.width.specs.declared.NewNode.{NewNode}
-use Rattle.width.specs.declared.WidthAnswer.{WidthAnswer}
-use Rattle.width.specs.Width.{width}
+use Rattle.render.specs.declared.types.RowShape.{RowShape}
+use Rattle.render.specs.declared.refusals.Refusal.{Refusal}
+use Rattle.render.specs.Refusals.{not_refused, number}
+use Rattle.row_shape.specs.Row.{RowReply, row, no_shape}
+use Rattle.preview.specs.Promises.{PreviewAnswer, Previews}
+use Rattle.width.specs.Width.{WidthAnswer, width}
 use Rattle.glyphs.specs.declared.Renderer.{Renderer}
 use Rattle.output.specs.declared.TextState.{TextState}
 use Rattle.output.specs.Output.{queue_limit, text_view_of}
 use Rattle.text.specs.Text.{TextReply, text}
-use Rattle.lineage.specs.declared.ShapeAnswer.{ShapeAnswer}
-use Rattle.lineage.specs.declared.LengthAnswer.{LengthAnswer}
+use Rattle.lineage.specs.declared.TextLength.{TextLength}
 
 -- ---- a lent list
 
@@ -30,6 +29,34 @@ ancestors l = map (λ (e : Entry). e.ancestor) l
 -- the copy stands for the list itself, or for one longer than the limit where the list is too long
 abbrev pub Copies : List Entry → Entries → Type 0
 Copies l r = listed r ≡ capped (ancestors l)
+
+-- ---- what the calls give beside what was lent: a result, as document 01's answer
+
+-- the refusal's number, 0 for none
+abbrev pub refusal_from : {A : Type 0} → Result A Refusal → ℕ
+refusal_from (Ok a) = not_refused
+refusal_from (Err e) = number e
+
+-- what the row call gives: the refusal's number and the shape
+pub record ShapeAnswer : Type 0 where
+  pub refusal : ℕ
+  pub shape : RowShape
+
+-- the result of a row call, as the answer
+abbrev pub shape_answer_from : Result RowShape Refusal → ShapeAnswer
+shape_answer_from (Ok g) = record { refusal = not_refused; shape = g }
+shape_answer_from (Err e) = record { refusal = number e; shape = no_shape }
+
+-- what the text call gives: the refusal's number, the count of bytes written and the line measure
+pub record LengthAnswer : Type 0 where
+  pub refusal : ℕ
+  pub length : ℕ
+  pub measure : ℕ
+
+-- the result of a text call, as the answer
+abbrev pub length_answer_from : Result TextLength Refusal → LengthAnswer
+length_answer_from (Ok r) = record { refusal = not_refused; length = r.length; measure = r.measure }
+length_answer_from (Err e) = record { refusal = number e; length = 0; measure = 0 }
 
 -- ---- the calls, where s is the shaper at entry and s' at exit
 
@@ -51,7 +78,7 @@ abbrev pub LentPreview : Shaper → ℕ → List Entry → PreviewAnswer → Typ
 LentPreview s n l r = Previews s n (ancestors l) r
 
 -- the width call gives what the definition says at the list itself
-abbrev pub LentWidth : Shaper → NewNode → List Entry → WidthAnswer → Type 0
+abbrev pub LentWidth : Shaper → Option ℕ → List Entry → WidthAnswer → Type 0
 LentWidth s n l r = r ≡ width (view_of s) n (ancestors l)
 
 -- the query gives what the definition says

@@ -1,117 +1,75 @@
 // The public calls: reserving, row, preview, width and text in lent forms, each thin over its by-value core; the others are passed on as they are.
 #![tactic(auto)]
 
-ghost use Rattle.row_shape.specs.Promises.{Rows};
-ghost use Rattle.lineage.specs.Promises.{Copies, LentReserves, LentRows, LentPreview, LentWidth, LentOrigin, LentTexts};
+ghost use Rattle.preview.specs.Promises.{preview_answer_from};
+ghost use Rattle.width.specs.Width.{width_answer_from};
+ghost use Rattle.lineage.specs.Promises.{refusal_from, shape_answer_from, length_answer_from, Copies, LentReserves, LentRows, LentPreview, LentWidth, LentOrigin, LentTexts};
 
 use render::Entries;
 use row_shape::next_row_shape;
 use text::write_next_text;
 
-// The new shaper call is `Shaper::with_options`, which gives an `Answer`.
-pub use column::{Column, Found, Slot, Started};
-pub use render::{DashStyle, LinkLinePlacement, Options, Style};
-pub use shaper::{Answer, Shaper};
+// The new shaper call is `Shaper::with_options`; why a call turns back is a `Refusal`.
+pub use column::{Column, Slot, Started};
+pub use render::{DashStyle, LinkLinePlacement, Options, Refusal, Style};
+pub use shaper::Shaper;
 
 // What the row, preview, width and text calls take and give.
 pub use glyphs::Renderer;
 pub use output::TextState;
-pub use preview::PreviewAnswer;
+pub use preview::RowPreview;
 pub use render::{Ancestor, Cell, Entry, LinkLine, NodeLine, PadLine, RowShape};
-pub use width::{NewNode, WidthAnswer};
 
 // The renderer call.
-pub use prefix_lines::{Written as LinesAnswer, next_prefix_lines};
+pub use prefix_lines::next_prefix_lines;
 
 // The record call.
-pub use record::{Outcome, Record, RecordAnswer, next_record};
+pub use record::{Record, next_record};
 
-// What the row call gives: the refusal's number and the shape.
+// What the text call gives: the count of bytes written and the line measure.
 #[derive(Clone, Copy)]
-pub struct ShapeAnswer {
-    pub refusal: u8,
-    pub shape: RowShape,
-}
-
-// A row's answer, and the shaper after it.
-#[derive(Clone, Copy)]
-struct RowDone {
-    shaper: Shaper,
-    answer: ShapeAnswer,
-}
-
-// What the text call gives: the refusal's number, the count of bytes written and the line measure.
-#[derive(Clone, Copy)]
-pub struct LengthAnswer {
-    pub refusal: u8,
+pub struct TextLength {
     pub length: usize,
     pub measure: usize,
 }
 
 // The reserving call on a lent shaper.
-pub fn reserve(shaper: &mut Shaper, node: u32) -> u8
-    ensures { LentReserves shaper.old node shaper.new result }
+pub fn reserve(shaper: &mut Shaper, node: u32) -> Result<(), Refusal>
+    ensures { LentReserves shaper.old node shaper.new (refusal_from result) }
 {
-    let given = shaper.reserve(node);
-    *shaper = given.shaper;
-    given.refusal
+    *shaper = shaper.reserve(node)?;
+    Ok(())
 }
 
 // The entries of a lent list by value; past 8 there are too many.
 pub fn copy_entries(list: &[Entry]) -> Entries
     ensures { Copies list.now result }
 {
-    let mut entries = Entries::none();
-    let n = list.len();
-    let mut i: usize = 0;
-    while i < n {
-        entries = entries.push(list[i]);
-        i = i + 1;
-    }
-    entries
-}
-
-// The row call by value, its shaper apart from its answer.
-fn row_core(shaper: Shaper, node: u32, entries: Entries) -> RowDone
-    ensures { Rows shaper node entries (record { refusal = result.answer.refusal; shape = result.answer.shape; shaper = result.shaper }) }
-{
-    let given = next_row_shape(shaper, node, entries);
-    let shape = given.shape;
-    let shaper_then = given.shaper;
-    let answer = ShapeAnswer {
-        refusal: given.refusal,
-        shape,
-    };
-    RowDone {
-        shaper: shaper_then,
-        answer,
-    }
+    list.iter()
+        .fold(Entries::none(), |entries, entry| entries.push(*entry))
 }
 
 // The row call on a lent shaper and a lent list of parent entries.
-pub fn row(shaper: &mut Shaper, node: u32, entries: &[Entry]) -> ShapeAnswer
-    ensures { LentRows shaper.old node entries.now shaper.new result }
+pub fn row(shaper: &mut Shaper, node: u32, entries: &[Entry]) -> Result<RowShape, Refusal>
+    ensures { LentRows shaper.old node entries.now shaper.new (shape_answer_from result) }
 {
-    let copied = copy_entries(entries);
-    let given = row_core(*shaper, node, copied);
-    *shaper = given.shaper;
-    given.answer
+    let next = next_row_shape(*shaper, node, copy_entries(entries))?;
+    *shaper = next.shaper;
+    Ok(next.shape)
 }
 
 // The preview of a row on a lent shaper and a lent list of parent entries.
-pub fn preview(shaper: &Shaper, node: u32, entries: &[Entry]) -> PreviewAnswer
-    ensures { LentPreview shaper.now node entries.now result }
+pub fn preview(shaper: &Shaper, node: u32, entries: &[Entry]) -> Result<RowPreview, Refusal>
+    ensures { LentPreview shaper.now node entries.now (preview_answer_from shaper.now result) }
 {
-    let copied = copy_entries(entries);
-    preview::preview(*shaper, node, copied)
+    preview::preview(*shaper, node, copy_entries(entries))
 }
 
 // The width call on a lent shaper and a lent list of parent entries.
-pub fn width(shaper: &Shaper, node: NewNode, entries: &[Entry]) -> WidthAnswer
-    ensures { LentWidth shaper.now node entries.now result }
+pub fn width(shaper: &Shaper, node: Option<u32>, entries: &[Entry]) -> Result<usize, Refusal>
+    ensures { LentWidth shaper.now node entries.now (width_answer_from result) }
 {
-    let copied = copy_entries(entries);
-    width::width(*shaper, node, copied)
+    width::width(*shaper, node, copy_entries(entries))
 }
 
 // Who started the line of an id on a lent shaper.
@@ -131,16 +89,15 @@ pub fn text(
     mark: u8,
     message: &[u8],
     out: &mut [u8],
-) -> LengthAnswer
-    ensures { LentTexts shaper.old state.old renderer node entries.now mark message.now out.old shaper.new state.new out.new result }
+) -> Result<TextLength, Refusal>
+    ensures { LentTexts shaper.old state.old renderer node entries.now mark message.now out.old shaper.new state.new out.new (length_answer_from result) }
 {
     let copied = copy_entries(entries);
-    let given = write_next_text(*shaper, *state, renderer, node, copied, mark, message, out);
+    let given = write_next_text(*shaper, *state, renderer, node, copied, mark, message, out)?;
     *shaper = given.shaper;
     *state = given.state;
-    LengthAnswer {
-        refusal: given.refusal,
+    Ok(TextLength {
         length: given.length,
         measure: given.measure,
-    }
+    })
 }

@@ -2,31 +2,25 @@
 use Prim.Native.Nat.{ℕ, zero, suc, ◌+◌, ◌≤◌, ◌<◌, min, max}
 use mathlib.Core.Path.{◌≡◌, refl, ap, ◌∙◌, sym}
 use mathlib.Core.Logic.{◌⊎◌, inl, inr}
-use mathlib.Core.Bool.{Bool, true, false, cond, not, ◌&&◌, ◌||◌}
+use mathlib.Core.Bool.{Bool, true, false, cond, ◌&&◌}
 use borrow.Author.Tests.{ne_eqb, le-ltb}
 use mathlib.Core.List.{List, [], ◌∷◌}
 use native.Mathlib.Numerals.{add-one}
 use native.Mathlib.Omega.{arith}
 use native.Mathlib.Decide.{dec_lt}
-use lib.ListN.{length, get_or, drop, drop_of_length-le}
-use lib.Seq.{drop-cons}
+use lib.ListN.{length, get_or, take, drop, drop_of_length-le}
+use lib.Seq.{drop-cons, get_or-take}
 use lib.Dec.{ltb, eqb}
 use Rattle.render.specs.Link.{strokes}
-use Rattle.slices.proofs.Front.{length_front, front-get_or}
-use Rattle.render.specs.declared.render.Marks.{Marks}
+use Rattle.std.proofs.lemmas.List.{take_min}
 use Rattle.links.specs.declared.Drawn.{Drawn}
 use Rattle.links.specs.declared.Drawn.TheVariants.{Nobody, Indirect, Direct, Anonymous}
-use Rattle.links.specs.declared.ParentColumn.{ParentColumn}
 use Rattle.links.specs.declared.Swap.{Swap}
 use Rattle.links.specs.declared.AncestorColumnBounds.{AncestorColumnBounds}
-use Rattle.links.specs.Links.{is_drawn, is_directly_drawn, is_indirectly_drawn, found_as, is_at, leftmost, rightmost, bounds_of, passes_solid, passes_dashed, from_node}
-use Rattle.links.specs.Inner.{nobody, kind_at, kinds, reaching, reach_start, reach_last}
-use Rattle.column.specs.declared.Found.{Found}
-use Rattle.column.specs.declared.Found.TheVariants.{At, Nothing}
-use Rattle.column.specs.Columns.{or_else}
-
-abbrev pub kind_of : ParentColumn → Drawn
-kind_of p = p.drawn
+use Rattle.links.specs.Links.{is_drawn, is_directly_drawn, found_as, is_at, leftmost, rightmost, bounds_of, passes_solid, passes_dashed, from_node}
+use Rattle.links.specs.Inner.{kind_at, kinds, reaching, reach_start, reach_last}
+use Rattle.column.specs.Found.{Found}
+use Rattle.std.specs.Prelude.{Some, None, unwrap_or}
 
 -- a kind that is none is nobody
 pub not-drawn : (d : Drawn) → is_drawn d ≡ false → d ≡ Nobody
@@ -34,13 +28,6 @@ not-drawn Nobody h = refl
 not-drawn Indirect h = let z : ◌≡◌ {A = ℕ} 0 1 = cc in absurd (omega arith)
 not-drawn Direct h = let z : ◌≡◌ {A = ℕ} 0 1 = cc in absurd (omega arith)
 not-drawn Anonymous h = let z : ◌≡◌ {A = ℕ} 0 1 = cc in absurd (omega arith)
-
--- one of two, by a test that was made
-pub chosen : {A : Type 0} (t : Bool) (x y r : A) → t ≡ true → r ≡ x → r ≡ cond t x y
-chosen t x y r h e = rw h e
-
-pub not_chosen : {A : Type 0} (t : Bool) (x y r : A) → t ≡ false → r ≡ y → r ≡ cond t x y
-not_chosen t x y r h e = rw h e
 
 min_assoc : (x y z : ℕ) → min (min x y) z ≡ min x (min y z)
 min_assoc x y z = omega arith
@@ -161,39 +148,15 @@ module _ (ds : List Drawn) (target : ℕ) where
       whole = rw (← l, ← ld, ← rd, ← r)
 
 -- ---- who draws, in an array
-module _ (n : ℕ) (l : List ParentColumn) (i : ℕ) where
-  pub kinds-at : i < n → i < length l → get_or (kinds n l) i Nobody ≡ kind_at l i
-  kinds-at h k = front-get_or kind_of n l i nobody Nobody h k
 
-  pub kinds-below : i < n → i < length l → i < length (kinds n l)
-  kinds-below h k = rw length_front (omega arith)
+pub kinds-at : (n : ℕ) (l : List Drawn) (i : ℕ) → i < n → get_or (kinds n l) i Nobody ≡ kind_at l i
+kinds-at n l i h = get_or-take n l i Nobody h
 
-  pub kinds-past : min n (length l) ≤ i → length (kinds n l) ≤ i
-  kinds-past h = rw length_front h
+-- the kinds are those of the live columns of an array of that length
+pub kinds-clamp : (m n : ℕ) (l : List Drawn) → m ≡ min n (length l) → take m l ≡ kinds n l
+kinds-clamp m n l h = ap (λ k. take k l) h ∙ take_min n l
 
 -- ---- the marks of a cell
-
--- those that come from the node, from what the functions found
-pub marks-done : (b : AncestorColumnBounds) (w : Swap) (i : ℕ) (d : Drawn) (m : Marks) (swapped gone drawn direct indirect : Bool)
-    → m ≡ strokes (passes_solid b w i) (passes_dashed b w i) → swapped ≡ found_as (λ p. true) w.given_up → gone ≡ is_at w.given_up i
-    → drawn ≡ is_drawn d → direct ≡ is_directly_drawn d → indirect ≡ is_indirectly_drawn d
-    → record {
-      horiz_parent = not (eqb i b.target) && m.horiz_parent;
-      horiz_ancestor = not (eqb i b.target) && m.horiz_ancestor;
-      vert_parent = eqb i b.target && direct;
-      vert_ancestor = eqb i b.target && indirect;
-      left_fork_parent = ltb b.target i && direct;
-      left_fork_ancestor = ltb b.target i && indirect;
-      right_fork_parent = (ltb i b.target && direct) || ((eqb i b.target && swapped) && w.was_direct);
-      right_fork_ancestor = (ltb i b.target && indirect) || ((eqb i b.target && swapped) && not w.was_direct);
-      left_merge_parent = (eqb i b.target && ltb b.min_parent b.target) || (gone && w.was_direct);
-      left_merge_ancestor = (eqb i b.target && (not (ltb b.min_parent b.target) && ltb b.min_ancestor b.target)) || (gone && not w.was_direct);
-      right_merge_parent = eqb i b.target && ltb b.target b.max_parent;
-      right_merge_ancestor = eqb i b.target && (not (ltb b.target b.max_parent) && ltb b.target b.max_ancestor);
-      child = eqb i b.target && drawn;
-    }
-    ≡ from_node b w i d
-marks-done b w i d m swapped gone drawn direct indirect p q r e f g = rw (p, q, r, e, f, g)
 
 none : (b : Bool) → (b && false) ≡ false
 none true = refl
@@ -291,13 +254,13 @@ no-entry m h = go (is_drawn m) refl
     go true e = absurd (h e)
     go false e = not-drawn m e
 
-up_left : (f : Found) (l i : ℕ) → i < min (or_else f l) l → is_at f i ≡ false
-up_left Nothing l i h = refl
-up_left (At p) l i h = ne_eqb p i (λ z. omega (arith, z))
+up_left : (f : Found) (l i : ℕ) → i < min (unwrap_or f l) l → is_at f i ≡ false
+up_left None l i h = refl
+up_left (Some p) l i h = ne_eqb p i (λ z. omega (arith, z))
 
-up_right : (f : Found) (l i : ℕ) → max (or_else f l) l < i → (is_at f i ≡ false) × (found_as (ltb i) f ≡ false)
-up_right Nothing l i h = (refl, refl)
-up_right (At p) l i h = (ne_eqb p i (λ z. omega (arith, z)), le-ltb i p (omega arith))
+up_right : (f : Found) (l i : ℕ) → max (unwrap_or f l) l < i → (is_at f i ≡ false) × (found_as (ltb i) f ≡ false)
+up_right None l i h = (refl, refl)
+up_right (Some p) l i h = (ne_eqb p i (λ z. omega (arith, z)), le-ltb i p (omega arith))
 
 module _ (ds : List Drawn) (c : ℕ) (w : Swap) (i : ℕ) where
   abbrev b : AncestorColumnBounds

@@ -1,29 +1,18 @@
 -- What the inner functions give for a link line, on arrays and counts: steps on the way to the definitions of Links.
-use Rattle.std.specs.Prelude.{ℕ, min, max, cond, List, map, get_or, take}
-use Rattle.column.specs.Columns.{or_else}
-use Rattle.render.specs.declared.render.Ancestor.{Ancestor as Entry}
+use Rattle.std.specs.Prelude.{ℕ, min, max, cond, List, get_or, take, unwrap_or}
 use Rattle.links.specs.declared.Drawn.{Drawn}
 use Rattle.links.specs.declared.Drawn.TheVariants.{Nobody}
-use Rattle.links.specs.declared.ParentColumn.{ParentColumn}
 use Rattle.links.specs.declared.AncestorColumnBounds.{AncestorColumnBounds}
 use Rattle.links.specs.declared.Swap.{Swap}
-use Rattle.links.specs.Links.{drawn_by, is_drawn, is_directly_drawn}
-
--- a column in which nobody draws
-abbrev pub nobody : ParentColumn
-nobody = record { drawn = Nobody }
-
--- one in which an entry draws
-abbrev pub parent_of : Entry → ParentColumn
-parent_of e = record { drawn = drawn_by e }
+use Rattle.links.specs.Links.{is_drawn, is_directly_drawn}
 
 -- who draws in column i of an array
-abbrev pub kind_at : List ParentColumn → ℕ → Drawn
-kind_at l i = (get_or l i nobody).drawn
+abbrev pub kind_at : List Drawn → ℕ → Drawn
+kind_at l i = get_or l i Nobody
 
 -- who draws in each of the first n columns of an array
-abbrev pub kinds : ℕ → List ParentColumn → List Drawn
-kinds n l = map (λ (p : ParentColumn). p.drawn) (take n l)
+abbrev pub kinds : ℕ → List Drawn → List Drawn
+kinds n l = take n l
 
 -- the bounds with one more column
 abbrev pub reaching : AncestorColumnBounds → ℕ → Drawn → AncestorColumnBounds
@@ -39,8 +28,8 @@ reaching b i d =
 
 -- the first column that the entries or the swap reach
 abbrev pub reach_start : AncestorColumnBounds → Swap → ℕ
-reach_start b w = min (or_else w.given_up b.min_ancestor) b.min_ancestor
+reach_start b w = min (unwrap_or w.given_up b.min_ancestor) b.min_ancestor
 
 -- the last one
 abbrev pub reach_last : AncestorColumnBounds → Swap → ℕ
-reach_last b w = max (or_else w.given_up b.max_ancestor) b.max_ancestor
+reach_last b w = max (unwrap_or w.given_up b.max_ancestor) b.max_ancestor

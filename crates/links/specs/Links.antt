@@ -1,8 +1,7 @@
 -- The marks of a row's link line (01, point 2: "A link cell is a set of thirteen marks"; graph_to_row_shape.rs): each mark of each cell as a condition.
-use Rattle.std.specs.Prelude.{ℕ, suc, min, max, Bool, true, false, cond, not, ◌&&◌, ◌||◌, List, [], ◌∷◌, ltb, eqb}
+use Rattle.std.specs.Prelude.{ℕ, suc, min, max, Bool, true, false, cond, not, ◌&&◌, ◌||◌, List, [], ◌∷◌, ltb, eqb, Some, None}
 use Rattle.column.specs.declared.Column.{Column}
-use Rattle.column.specs.declared.Found.{Found}
-use Rattle.column.specs.declared.Found.TheVariants.{At, Nothing}
+use Rattle.column.specs.Found.{Found}
 use Rattle.column.specs.Columns.{is_ancestor, is_parent}
 use Rattle.render.specs.declared.render.Ancestor.{Ancestor as Entry}
 use Rattle.render.specs.declared.render.Ancestor.TheVariants.{Ancestor as Indirect, Parent as Direct, Anonymous}
@@ -50,8 +49,8 @@ is_anonymously_drawn drawn.Anonymous = true
 
 -- whether a column was found, and it passes a test
 abbrev pub found_as : (ℕ → Bool) → Found → Bool
-found_as t Nothing = false
-found_as t (At p) = t p
+found_as t None = false
+found_as t (Some p) = t p
 
 -- whether that column was found
 abbrev pub is_at : Found → ℕ → Bool

@@ -1,28 +1,21 @@
 // The marks of a row's link line, after graph_to_row_shape.rs.
 #![tactic(auto)]
 
-ghost use Rattle.std.specs.Prelude.{◌≡◌, true, cond, ◌+◌, min, ltb};
+ghost use Rattle.std.specs.Prelude.{◌≡◌, cond, ◌+◌, min};
 ghost use Rattle.render.specs.Link.{strokes};
-ghost use Rattle.links.specs.Links.{drawn_by, is_drawn, is_directly_drawn, is_indirectly_drawn, is_anonymously_drawn, found_as, is_at, bounds_of, passes_solid, passes_dashed, from_node, with_uprights, linked};
-ghost use Rattle.links.specs.Inner.{nobody, parent_of, kinds, reaching as reaching_of, reach_start, reach_last};
+ghost use Rattle.links.specs.Links.{drawn_by, is_drawn, is_directly_drawn, is_indirectly_drawn, is_anonymously_drawn, bounds_of, passes_solid, passes_dashed, from_node, with_uprights, linked};
+ghost use Rattle.links.specs.Inner.{kinds, reaching as reaching_of, reach_start, reach_last};
 
-use column::{COLUMN_LIMIT, Column, Found};
+use column::{COLUMN_LIMIT, Column};
 use render::{Ancestor, Marks};
-use slices::{greater, lesser};
 
-// Who draws in a column, by its kind: the last entry that met it, an Anonymous one too, or nobody.
+// Who draws in a column, by its kind: the last entry that met it, an Anonymous one too, or nobody (the `BTreeMap` of parents).
 #[derive(Clone, Copy)]
 pub enum Drawn {
     Nobody,
     Indirect,
     Direct,
     Anonymous,
-}
-
-// One column of the parents' columns (the `BTreeMap` of parents).
-#[derive(Clone, Copy)]
-pub struct ParentColumn {
-    pub drawn: Drawn,
 }
 
 // How far the entries' columns reach from the node's.
@@ -36,9 +29,10 @@ pub struct AncestorColumnBounds {
 }
 
 // The column that a single entry gave up in a swap, and whether it was Parent before the row.
+// The flag stands beside the column and not within its Option: `from_node` and `passes_solid` of specs/Links read it by itself.
 #[derive(Clone, Copy)]
 pub struct Swap {
-    pub given_up: Found,
+    pub given_up: Option<usize>,
     pub was_direct: bool,
 }
 
@@ -58,90 +52,46 @@ impl Drawn {
     pub fn is_drawn(self) -> bool
         ensures { result ≡ is_drawn self }
     {
-        match self {
-            Drawn::Nobody => false,
-            Drawn::Indirect => true,
-            Drawn::Direct => true,
-            Drawn::Anonymous => true,
-        }
+        !matches!(self, Drawn::Nobody)
     }
 
     // Whether an entry draws that counts as direct (`ancestor_is_direct` in graph_to_row_shape.rs).
     pub fn is_direct(self) -> bool
         ensures { result ≡ is_directly_drawn self }
     {
-        match self {
-            Drawn::Nobody => false,
-            Drawn::Indirect => false,
-            Drawn::Direct => true,
-            Drawn::Anonymous => true,
-        }
+        matches!(self, Drawn::Direct | Drawn::Anonymous)
     }
 
     // Whether an indirect entry draws.
     pub fn is_indirect(self) -> bool
         ensures { result ≡ is_indirectly_drawn self }
     {
-        match self {
-            Drawn::Nobody => false,
-            Drawn::Indirect => true,
-            Drawn::Direct => false,
-            Drawn::Anonymous => false,
-        }
+        matches!(self, Drawn::Indirect)
     }
 
     // Whether an Anonymous entry draws.
     pub fn is_anonymous(self) -> bool
         ensures { result ≡ is_anonymously_drawn self }
     {
-        match self {
-            Drawn::Nobody => false,
-            Drawn::Indirect => false,
-            Drawn::Direct => false,
-            Drawn::Anonymous => true,
-        }
+        matches!(self, Drawn::Anonymous)
     }
 }
 
-impl ParentColumn {
-    // A column in which nobody draws.
-    pub fn nobody() -> ParentColumn
-        ensures { result ≡ nobody }
-    {
-        let drawn = Drawn::Nobody;
-        ParentColumn { drawn }
-    }
-
-    // A column in which an entry draws.
-    pub fn drawn_by(ancestor: Ancestor) -> ParentColumn
-        ensures { result ≡ parent_of ancestor }
-    {
-        let drawn = Drawn::by(ancestor);
-        ParentColumn { drawn }
-    }
-}
-
-// One of two numbers.
-fn pick(first: bool, a: usize, b: usize) -> usize
-    ensures { result ≡ cond first a b }
-{
-    if first { a } else { b }
-}
-
+// The swap is handed in beside the bounds, and the place with them: the definitions of specs/Links name each apart.
 impl AncestorColumnBounds {
     // The bounds with one more column, in which an entry draws.
     fn reaching(self, index: usize, drawn: Drawn) -> AncestorColumnBounds
         ensures { result ≡ reaching_of self index drawn }
     {
         let target = self.target;
-        let any = pick(drawn.is_drawn(), index, target);
-        let direct = pick(drawn.is_direct(), index, target);
+        let any = if drawn.is_drawn() { index } else { target };
+        let direct = if drawn.is_direct() { index } else { target };
         AncestorColumnBounds {
             target,
-            min_ancestor: lesser(self.min_ancestor, any),
-            min_parent: lesser(self.min_parent, direct),
-            max_parent: greater(self.max_parent, direct),
-            max_ancestor: greater(self.max_ancestor, any),
+            min_ancestor: self.min_ancestor.min(any),
+            min_parent: self.min_parent.min(direct),
+            max_parent: self.max_parent.max(direct),
+            max_ancestor: self.max_ancestor.max(any),
         }
     }
 
@@ -156,11 +106,8 @@ impl AncestorColumnBounds {
     }
 
     // The bounds of the parents' columns, the first `width` ones, which are walked upward.
-    pub fn new(
-        parents: [ParentColumn; COLUMN_LIMIT],
-        width: usize,
-        target: usize,
-    ) -> AncestorColumnBounds
+    // Array and width stay apart: the promise is of any width, and one above the limit is read as the limit.
+    pub fn new(parents: [Drawn; COLUMN_LIMIT], width: usize, target: usize) -> AncestorColumnBounds
         ensures { result ≡ bounds_of (kinds width parents) target }
     {
         let n = column::live_count(width);
@@ -171,12 +118,8 @@ impl AncestorColumnBounds {
             max_parent: target,
             max_ancestor: target,
         };
-        let mut i: usize = 0;
-        while i < n {
-            let parent = parents[i];
-            let drawn = parent.drawn;
+        for (i, &drawn) in parents[..n].iter().enumerate() {
             bounds = bounds.with_column(i, drawn);
-            i += 1;
         }
         bounds
     }
@@ -186,11 +129,7 @@ impl AncestorColumnBounds {
         ensures { result ≡ reach_start self swap }
     {
         let first = self.min_ancestor;
-        let given_up = swap.given_up;
-        match given_up {
-            Found::At(place) => lesser(place, first),
-            Found::Nothing => first,
-        }
+        swap.given_up.unwrap_or(first).min(first)
     }
 
     // The last column that they reach.
@@ -198,60 +137,23 @@ impl AncestorColumnBounds {
         ensures { result ≡ reach_last self swap }
     {
         let last = self.max_ancestor;
-        let given_up = swap.given_up;
-        match given_up {
-            Found::At(place) => greater(place, last),
-            Found::Nothing => last,
-        }
+        swap.given_up.unwrap_or(last).max(last)
     }
 
     // Where the columns end that they reach, of the first `width` ones.
     pub fn reach_end(self, swap: Swap, width: usize) -> usize
         ensures { result ≡ min (reach_last self swap + 1) width }
     {
-        let last = self.reach_last(swap);
-        if last < width {
-            return last + 1;
-        }
-        width
+        self.reach_last(swap).saturating_add(1).min(width)
     }
 
     // Whether the row has a link line: an entry's column, or the one given up, is not the node's own.
     pub fn need_link_line(self, swap: Swap) -> bool
         ensures { result ≡ linked self swap }
     {
-        let given_up = swap.given_up;
-        is_some(given_up) | ((self.min_ancestor < self.target) | (self.target < self.max_ancestor))
-    }
-}
-
-// Whether a column was found.
-fn is_some(found: Found) -> bool
-    ensures { result ≡ found_as (λ p. true) found }
-{
-    match found {
-        Found::At(_) => true,
-        Found::Nothing => false,
-    }
-}
-
-// Whether that column was found.
-pub fn is_at(found: Found, index: usize) -> bool
-    ensures { result ≡ is_at found index }
-{
-    match found {
-        Found::At(place) => place == index,
-        Found::Nothing => false,
-    }
-}
-
-// Whether a column right of that one was found.
-fn is_before(index: usize, found: Found) -> bool
-    ensures { result ≡ found_as (ltb index) found }
-{
-    match found {
-        Found::At(place) => index < place,
-        Found::Nothing => false,
+        swap.given_up.is_some()
+            || self.min_ancestor < self.target
+            || self.target < self.max_ancestor
     }
 }
 
@@ -260,15 +162,15 @@ fn is_before(index: usize, found: Found) -> bool
 pub fn passing(bounds: AncestorColumnBounds, swap: Swap, index: usize) -> Marks
     ensures { result ≡ strokes (passes_solid bounds swap index) (passes_dashed bounds swap index) }
 {
-    let given_up = swap.given_up;
     let solid = swap.was_direct;
     let inner = (bounds.min_parent < index) & (index < bounds.max_parent);
     let outer = (bounds.min_ancestor < index) & (index < bounds.max_ancestor);
-    let bar = (bounds.target < index) & is_before(index, given_up);
-    let mut out = Marks::none();
-    out.horiz_parent = inner | (bar & solid);
-    out.horiz_ancestor = (!inner & outer) | (bar & !solid);
-    out
+    let bar = (bounds.target < index) & swap.given_up.is_some_and(|place| index < place);
+    Marks {
+        horiz_parent: inner | (bar & solid),
+        horiz_ancestor: (!inner & outer) | (bar & !solid),
+        ..Marks::none()
+    }
 }
 
 // The marks that come from the node in one cell (`link_line_from_node`).
@@ -276,12 +178,11 @@ pub fn from_node(bounds: AncestorColumnBounds, swap: Swap, index: usize, drawn: 
     ensures { result ≡ from_node bounds swap index drawn }
 {
     let target = bounds.target;
-    let given_up = swap.given_up;
     let solid = swap.was_direct;
     let here = index == target;
     let stroke = passing(bounds, swap, index);
-    let gone = is_at(given_up, index);
-    let bend = here & is_some(given_up);
+    let gone = swap.given_up == Some(index);
+    let bend = here & swap.given_up.is_some();
     let direct = drawn.is_direct();
     let indirect = drawn.is_indirect();
     let left = bounds.min_parent < target;
@@ -307,8 +208,9 @@ pub fn from_node(bounds: AncestorColumnBounds, swap: Swap, index: usize, drawn: 
 pub fn with_uprights(marks: Marks, gone: bool, column: Column) -> Marks
     ensures { result ≡ with_uprights gone column marks }
 {
-    let mut out = marks;
-    out.vert_parent = (column.is_parent() & !gone) | marks.vert_parent;
-    out.vert_ancestor = (column.is_ancestor() & !gone) | marks.vert_ancestor;
-    out
+    Marks {
+        vert_parent: (column.is_parent() & !gone) | marks.vert_parent,
+        vert_ancestor: (column.is_ancestor() & !gone) | marks.vert_ancestor,
+        ..marks
+    }
 }

@@ -8,9 +8,9 @@ use native.Mathlib.Omega.{arith}
 use lib.Dec.{ltb, eqb}
 use lib.ListN.{length}
 use borrow.Author.Tests.{lt-ltb, le-ltb}
+use Rattle.std.specs.Prelude.{None, Option}
 use Rattle.column.specs.declared.Column.{Column}
 use Rattle.column.specs.declared.Column.TheVariants.{Empty}
-use Rattle.column.specs.declared.Found.TheVariants.{Nothing}
 use Rattle.column.specs.Columns.{column_limit, merge, at, put}
 use Rattle.column.proofs.Positions.{length-put}
 use Rattle.render.specs.declared.render.Ancestor.{Ancestor as Entry}
@@ -23,7 +23,6 @@ use Rattle.shaper.specs.NodeColumn.{dense, node_column}
 use Rattle.placing.specs.Placing.{column_of, column_of_parent, enter, walk, place}
 use Rattle.placing.proofs.PlacingLaws.{parent-column-within}
 use Rattle.row_shape.specs.Row.{RowReply, row}
-use Rattle.width.specs.declared.NewNode.{NewNode}
 use Rattle.width.specs.Width.{width}
 use Rattle.message.specs.Message.{message_limit, is_writable, all_of, lines_of}
 use Rattle.glyphs.specs.declared.Renderer.{Renderer}
@@ -58,15 +57,15 @@ walk-few c (e ∷ es) cs =
     omega (arith, walk-few c es (enter c e cs), parent-column-within c e cs, length-put cs (column_of_parent c e cs) (merge (at cs (column_of_parent c e cs)) (column_of e)))
 
 -- a new shaper, a refused one too, has no columns and no previous node
-new-bare : (o : Options) → ((new_shaper o).view.columns ≡ []) × ((new_shaper o).view.previous ≡ Nothing)
+pub new-bare : (o : Options) → ((new_shaper o).view.columns ≡ []) × ((new_shaper o).view.previous ≡ None)
 new-bare o = go (ltb height_limit o.min_row_height) refl
   where
-    go : (b : Bool) → ltb height_limit o.min_row_height ≡ b → ((new_shaper o).view.columns ≡ []) × ((new_shaper o).view.previous ≡ Nothing)
+    go : (b : Bool) → ltb height_limit o.min_row_height ≡ b → ((new_shaper o).view.columns ≡ []) × ((new_shaper o).view.previous ≡ None)
     go true q = (rw q, rw q)
     go false q = (rw q, rw q)
 
 -- its first node stands in column 0
-node-first : (v : View) (n : ℕ) → v.columns ≡ [] → v.previous ≡ Nothing → node_column v n ≡ 0
+node-first : (v : View) (n : ℕ) → v.columns ≡ [] → v.previous ≡ None → node_column v n ≡ 0
 node-first v n e p = go (dense v) refl
   where
     go : (b : Bool) → dense v ≡ b → node_column v n ≡ 0
@@ -97,7 +96,7 @@ module _ (es : List Entry) (few : length es ≤ 8) where
       go false e h = let z : ◌≡◌ {A = ℕ} 0 3 = rw (not-many, e) at h in omega arith
 
   -- the width call has no other check
-  width-given : (v : View) (n : NewNode) → (width v n es).refusal ≡ 0
+  width-given : (v : View) (n : Option ℕ) → (width v n es).refusal ≡ 0
   unfolding width
   width-given v n = rw not-many refl
 

@@ -10,12 +10,12 @@ use native.Mathlib.Omega.{arith}
 use native.Mathlib.Decide.{ℕ_discrete, dec_lt}
 use borrow.Author.Tests.{eqb-true, eqb-false, eq-eqb, ne_eqb}
 use lib.Dec.{eqb, ltb}
-use lib.ListN.{length, get_or, set, get_or-eq_default}
+use lib.ListN.{length, get_or, set, get_or-eq_default, get_or-map}
+use Rattle.std.specs.Prelude.{Some, None, unwrap_or}
 use Rattle.column.specs.declared.Column.{Column}
 use Rattle.column.specs.declared.Column.TheVariants.{Empty, Blocked, Reserved, Ancestor, Parent}
-use Rattle.column.specs.declared.Found.{Found}
-use Rattle.column.specs.declared.Found.TheVariants.{At, Nothing}
-use Rattle.column.specs.Columns.{rank, id_of, is_id, holds, is_empty, first, next, find, find_empty, or_else, vacant, merge, direct, unblock, reset, at, put}
+use Rattle.column.specs.Found.{Found}
+use Rattle.column.specs.Columns.{rank, id_of, is_id, holds, is_empty, first, next, find, find_empty, vacant, merge, direct, unblock, reset, at, put}
 use Rattle.column.proofs.Laws.{trim-at}
 use Rattle.column.proofs.Positions.{at-put-same, at-put-other, past_end}
 use Rattle.render.specs.declared.render.Ancestor.{Ancestor as Entry}
@@ -33,8 +33,8 @@ Holds cs i x = id_of (at cs i) ≡ some x
 
 -- ---- what a search finds
 pub data First (p : Column → Bool) (cs : List Column) : Found → Type 0 where
-  miss : ((i : ℕ) → i < length cs → p (at cs i) ≡ false) → First p cs Nothing
-  hit : (i : ℕ) → i < length cs → p (at cs i) ≡ true → First p cs (At i)
+  miss : ((i : ℕ) → i < length cs → p (at cs i) ≡ false) → First p cs None
+  hit : (i : ℕ) → i < length cs → p (at cs i) ≡ true → First p cs (Some i)
 
 pub first_is : (p : Column → Bool) (cs : List Column) → First p cs (first p cs)
 first_is p [] = miss (λ i h. absurd (not-suc-le-zero h))
@@ -44,7 +44,7 @@ first_is p (c ∷ cs) = step (p c) refl (first p cs) (first_is p cs)
     behind e h zero l = e
     behind e h (suc i) l = h i (le_of_suc-le-suc l)
 
-    step : (t : Bool) → p c ≡ t → (o : Found) → First p cs o → First p (c ∷ cs) (cond t (At 0) (next o))
+    step : (t : Bool) → p c ≡ t → (o : Found) → First p cs o → First p (c ∷ cs) (cond t (Some 0) (next o))
     step true e o f = hit 0 (omega arith) e
     step false e o (miss h) = miss (behind e h)
     step false e o (hit i l q) = hit (suc i) (omega arith) q
@@ -66,8 +66,8 @@ is_empty-true (Parent n) e = absurd (false≢true e)
 
 -- where an id is
 pub data Where (n : ℕ) (cs : List Column) : Found → Type 0 where
-  away : ((i : ℕ) → Holds cs i n → ⊥) → Where n cs Nothing
-  there : (i : ℕ) → Holds cs i n → Where n cs (At i)
+  away : ((i : ℕ) → Holds cs i n → ⊥) → Where n cs None
+  there : (i : ℕ) → Holds cs i n → Where n cs (Some i)
 
 -- what a column holds is a column
 pub held_below : (cs : List Column) (i n : ℕ) → Holds cs i n → i < length cs
@@ -88,7 +88,7 @@ find_is n cs = go (find n cs) (first_is (holds n) cs)
 pub at-vacant : (cs : List Column) → at cs (vacant cs) ≡ Empty
 at-vacant cs = go (first is_empty cs) (first_is is_empty cs)
   where
-    go : (o : Found) → First is_empty cs o → at cs (or_else o (length cs)) ≡ Empty
+    go : (o : Found) → First is_empty cs o → at cs (unwrap_or o (length cs)) ≡ Empty
     go o (miss h) = past_end cs (length cs) (omega arith)
     go o (hit i l q) = is_empty-true (at cs i) q
 
@@ -97,10 +97,10 @@ at-known [] i e = refl
 at-known (c ∷ cs) zero e = e
 at-known (c ∷ cs) (suc i) e = at-known cs i e
 
-pub at-free : (c : ℕ) (cs : List Column) → at cs (or_else (find_empty c cs) (length cs)) ≡ Empty
+pub at-free : (c : ℕ) (cs : List Column) → at cs (unwrap_or (find_empty c cs) (length cs)) ≡ Empty
 at-free c cs = go (is_empty (get_or cs c Blocked)) refl
   where
-    go : (t : Bool) → is_empty (get_or cs c Blocked) ≡ t → at cs (or_else (cond t (At c) (first is_empty cs)) (length cs)) ≡ Empty
+    go : (t : Bool) → is_empty (get_or cs c Blocked) ≡ t → at cs (unwrap_or (cond t (Some c) (first is_empty cs)) (length cs)) ≡ Empty
     go true e = at-known cs c (is_empty-true (get_or cs c Blocked) e)
     go false e = at-vacant cs
 
@@ -112,14 +112,14 @@ at-masked (c ∷ cs) (suc p) zero e = e
 at-masked (c ∷ cs) (suc p) (suc i) e = at-masked cs p i e
 
 pub at-staggered : (p : Found) (cs : List Column) → at cs (staggered p cs) ≡ Empty
-at-staggered Nothing cs = at-vacant cs
-at-staggered (At p) cs = go (first is_empty (set cs p Blocked)) (first_is is_empty (set cs p Blocked))
+at-staggered None cs = at-vacant cs
+at-staggered (Some p) cs = go (first is_empty (set cs p Blocked)) (first_is is_empty (set cs p Blocked))
   where
     new : (t : Bool) → at cs (cond t (suc (length cs)) (length cs)) ≡ Empty
     new true = past_end cs (suc (length cs)) (omega arith)
     new false = past_end cs (length cs) (omega arith)
 
-    go : (o : Found) → First is_empty (set cs p Blocked) o → at cs (or_else o (cond (eqb p (length cs)) (suc (length cs)) (length cs))) ≡ Empty
+    go : (o : Found) → First is_empty (set cs p Blocked) o → at cs (unwrap_or o (cond (eqb p (length cs)) (suc (length cs)) (length cs))) ≡ Empty
     go o (miss h) = new (eqb p (length cs))
     go o (hit i l q) = at-masked cs p i (is_empty-true (at (set cs p Blocked) i) q)
 
@@ -128,13 +128,13 @@ pub data Spot (o : Option ℕ) (cs : List Column) (k : ℕ) : Type 0 where
   taken : (n : ℕ) → o ≡ some n → Holds cs k n → Spot o cs k
   free : at cs k ≡ Empty → ((n i : ℕ) → o ≡ some n → Holds cs i n → ⊥) → Spot o cs k
 
-pub found-spot : (n : ℕ) (cs : List Column) (k : ℕ) → at cs k ≡ Empty → (o : Found) → Where n cs o → Spot (some n) cs (or_else o k)
+pub found-spot : (n : ℕ) (cs : List Column) (k : ℕ) → at cs k ≡ Empty → (o : Found) → Where n cs o → Spot (some n) cs (unwrap_or o k)
 found-spot n cs k e o (there i q) = taken n refl q
 found-spot n cs k e o (away h) = free e (λ m i z q. h i (q ∙ sym z))
 
 pub spot_is : (c : ℕ) (e : Entry) (cs : List Column) → Spot (entry_id e) cs (column_of_parent c e cs)
-spot_is c (Indirect n) cs = found-spot n cs (or_else (find_empty c cs) (length cs)) (at-free c cs) (find n cs) (find_is n cs)
-spot_is c (Direct n) cs = found-spot n cs (or_else (find_empty c cs) (length cs)) (at-free c cs) (find n cs) (find_is n cs)
+spot_is c (Indirect n) cs = found-spot n cs (unwrap_or (find_empty c cs) (length cs)) (at-free c cs) (find n cs) (find_is n cs)
+spot_is c (Direct n) cs = found-spot n cs (unwrap_or (find_empty c cs) (length cs)) (at-free c cs) (find n cs) (find_is n cs)
 spot_is c Anonymous cs = free (at-free c cs) (λ n i z q. none-ne-some n z)
 
 -- the node's: its own, or an Empty one
@@ -241,8 +241,8 @@ at-swap i j cs m = go (ℕ_discrete m i) (ℕ_discrete m j)
     go (no p) (no q) = simp (at-put-other, flip-else)
 
 swapped-holds : (f : Found) (c : ℕ) (cs : List Column) (i x : ℕ) → Holds cs i x → (j : ℕ) × Holds (swapped f c cs) j x
-swapped-holds Nothing c cs i x h = (i, h)
-swapped-holds (At p) c cs i x h = (flip c p i, ap id_of (at-swap c p cs (flip c p i) ∙ ap (at cs) (flip-flip c p i)) ∙ h)
+swapped-holds None c cs i x h = (i, h)
+swapped-holds (Some p) c cs i x h = (flip c p i, ap id_of (at-swap c p cs (flip c p i) ∙ ap (at cs) (flip-flip c p i)) ∙ h)
 
 -- ---- the end of a row: dashes, Blocked columns, and Empty ones at the end
 abbrev pub row_end : DashStyle → List Column → List Column
@@ -252,17 +252,12 @@ abbrev pub solid_column : DashStyle → Column → Column
 solid_column Persistent c = c
 solid_column Once c = direct c
 
-pub at_map : (f : Column → Column) → f Empty ≡ Empty → (cs : List Column) (i : ℕ) → at (map f cs) i ≡ f (at cs i)
-at_map f e [] i = sym e
-at_map f e (c ∷ cs) zero = refl
-at_map f e (c ∷ cs) (suc i) = at_map f e cs i
-
 at-solid-once : (d : DashStyle) (cs : List Column) (i : ℕ) → at (solid_once d cs) i ≡ solid_column d (at cs i)
 at-solid-once Persistent cs i = refl
-at-solid-once Once cs i = at_map direct refl cs i
+at-solid-once Once cs i = get_or-map direct cs i Empty
 
 pub at-row-end : (d : DashStyle) (cs : List Column) (i : ℕ) → at (row_end d cs) i ≡ unblock (solid_column d (at cs i))
-at-row-end d cs i = trim-at (map unblock (solid_once d cs)) i ∙ (at_map unblock refl (solid_once d cs) i ∙ ap unblock (at-solid-once d cs i))
+at-row-end d cs i = trim-at (map unblock (solid_once d cs)) i ∙ (get_or-map unblock (solid_once d cs) i Empty ∙ ap unblock (at-solid-once d cs i))
 
 -- what is the same of Empty and Blocked columns, and of Parent and Ancestor ones, the end of a row keeps
 pub end-keeps : {A : Type 0} (f : Column → A) → f Empty ≡ f Blocked → ((n : ℕ) → f (Parent n) ≡ f (Ancestor n)) → (d : DashStyle) (c : Column) → f (unblock (solid_column d c)) ≡ f c

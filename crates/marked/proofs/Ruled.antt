@@ -8,10 +8,10 @@ use mathlib.Core.List.{List, [], ◌∷◌}
 use native.Mathlib.Omega.{arith}
 use lib.Dec.{lit≤}
 use lib.ListN.{length, drop}
+use Rattle.std.specs.Prelude.{None}
 use Rattle.column.specs.declared.Column.{Column}
 use Rattle.column.specs.declared.Column.TheVariants.{Empty}
-use Rattle.column.specs.declared.Found.{Found}
-use Rattle.column.specs.declared.Found.TheVariants.{Nothing}
+use Rattle.column.specs.Found.{Found}
 use Rattle.column.specs.Columns.{find, put}
 use Rattle.render.specs.declared.render.Ancestor.{Ancestor as Entry}
 use Rattle.render.specs.declared.render.Ancestor.TheVariants.{Ancestor, Parent}
@@ -65,7 +65,7 @@ unfolding row place
 shapes-differ e = let z : ◌≡◌ {A = ℕ} 1 2 = ap (λ g. g.width) e in omega arith
 
 -- an accepted row with a parent that no column holds changes the columns
-module _ (v : View) (n : ℕ) (es : List Entry) (x : ℕ) (h : named x es ≡ true) (u : find x v.columns ≡ Nothing) where
+module _ (v : View) (n : ℕ) (es : List Entry) (x : ℕ) (h : named x es ≡ true) (u : find x v.columns ≡ None) where
   held_after : (row v n es).refusal ≡ 0 → (i : ℕ) × Holds (row v n es).view.columns i x
   unfolding row place
   held_after a = go (refusal (row_checks es (place v n es))) refl
@@ -76,7 +76,7 @@ module _ (v : View) (n : ℕ) (es : List Entry) (x : ℕ) (h : named x es ≡ tr
 
   not-before : (f : Found) → find x v.columns ≡ f → Where x v.columns f → (i : ℕ) → Holds v.columns i x → ⊥
   not-before f e (away g) i q = g i q
-  not-before f e (there j g) i q = let z : ◌≡◌ {A = ℕ} 0 1 = cc in omega arith
+  not-before f e (there j g) i q = cc
 
   pub unheld-changes : (row v n es).refusal ≡ 0 → (row v n es).view.columns ≢ v.columns
   unheld-changes a e =

@@ -1,6 +1,6 @@
 -- The greatest figure of the width call with at most eight entries (02, R-5), on at most 64 columns.
 use Prim.Native.Nat.{ℕ}
-use mathlib.Core.Path.{◌≡◌, refl, ap}
+use mathlib.Core.Path.{◌≡◌, refl}
 use mathlib.Core.Logic.{◌≢◌}
 use mathlib.Core.Bool.{Bool, true, false}
 use mathlib.Core.List.{List}
@@ -8,10 +8,10 @@ use native.Mathlib.Omega.{arith}
 use lib.Dec.{ltb}
 use lib.ListN.{length}
 use borrow.Author.Tests.{ltb-false}
+use Rattle.std.specs.Prelude.{Some}
+use Rattle.std.proofs.lemmas.Option.{same_Some}
 use Rattle.column.specs.declared.Column.{Column}
 use Rattle.column.specs.declared.Column.TheVariants.{Empty}
-use Rattle.column.specs.declared.Found.{Found}
-use Rattle.column.specs.declared.Found.TheVariants.{At, Nothing}
 use Rattle.column.specs.Columns.{column_limit, put}
 use Rattle.column.proofs.Positions.{length-put}
 use Rattle.render.specs.declared.render.Ancestor.{Ancestor as Entry}
@@ -26,7 +26,7 @@ use Rattle.width.proofs.WidthMost.{width-most, width-most-drawn}
 use Rattle.marked.specs.EntryCounts.{GreatestWidth}
 
 -- the node of an accepted row stands in one of 64 columns
-drawn : (v : View) (n : ℕ) (es : List Entry) → (row v n es).refusal ≡ 0 → (row v n es).view.previous ≢ At 64
+drawn : (v : View) (n : ℕ) (es : List Entry) → (row v n es).refusal ≡ 0 → (row v n es).view.previous ≢ Some 64
 unfolding row place
 drawn v n es = go (is_too_many es) refl (ltb column_limit (length walked)) refl
   where
@@ -36,17 +36,12 @@ drawn v n es = go (is_too_many es) refl (ltb column_limit (length walked)) refl
     walked : List Column
     walked = walk c es (put v.columns c Empty)
 
-    column : Found → ℕ
-    column (At i) = i
-    column Nothing = 0
-
-    go : (b : Bool) → is_too_many es ≡ b → (d : Bool) → ltb column_limit (length walked) ≡ d → (row v n es).refusal ≡ 0 → (row v n es).view.previous ≢ At 64
+    go : (b : Bool) → is_too_many es ≡ b → (d : Bool) → ltb column_limit (length walked) ≡ d → (row v n es).refusal ≡ 0 → (row v n es).view.previous ≢ Some 64
     go true q d e h p = let z : ◌≡◌ {A = ℕ} 3 0 = rw q at h in absurd (omega arith)
     go false q true e h p = let z : ◌≡◌ {A = ℕ} 4 0 = rw (q, e) at h in absurd (omega arith)
     go false q false e h p =
-        let z : At c ≡ At 64 = rw (q, e) at p in
-        let y : c ≡ 64 = ap column z in
-        omega (arith, y, walk_more c es (put v.columns c Empty), length-put v.columns c Empty, ltb-false column_limit (length walked) e)
+        let z : Some c ≡ Some 64 = rw (q, e) at p in
+        omega (arith, same_Some c 64 z, walk_more c es (put v.columns c Empty), length-put v.columns c Empty, ltb-false column_limit (length walked) e)
 
 -- the greatest figures, and states on which they are given
 pub greatest-width : GreatestWidth

@@ -1,7 +1,6 @@
 -- R-5 of document 02, about the definitions that the contracts cite: eight entries pass, "nine entries now give 3 in row, width, text and preview", and a
 -- record has the same limit with a number of its own, 10.
-use Rattle.std.specs.Prelude.{ℕ, zero, suc, ◌+◌, ◌≤◌, ◌≡◌, refl, ◌≢◌, true, List, [], ◌∷◌, ◌++◌, map, length, take, replicate}
-use Rattle.column.specs.declared.Found.TheVariants.{At}
+use Rattle.std.specs.Prelude.{ℕ, zero, suc, ◌+◌, ◌≤◌, ◌≡◌, refl, ◌≢◌, true, List, [], ◌∷◌, ◌++◌, map, length, take, replicate, Some, Option}
 use Rattle.render.specs.declared.render.Ancestor.{Ancestor as Entry}
 use Rattle.render.specs.declared.render.Ancestor.TheVariants.{Ancestor, Parent, Anonymous}
 use Rattle.render.specs.declared.types.Options.{Options}
@@ -11,8 +10,6 @@ use Rattle.shaper.specs.Shaper.{View, new_shaper, reserve}
 use Rattle.placing.specs.Placing.{place}
 use Rattle.row_shape.specs.Row.{no_shape, row}
 use Rattle.preview.specs.Preview.{preview}
-use Rattle.width.specs.declared.NewNode.{NewNode}
-use Rattle.width.specs.declared.NewNode.TheVariants.{Node}
 use Rattle.width.specs.Width.{width}
 use Rattle.message.specs.Message.{message_limit, is_writable, all_of}
 use Rattle.glyphs.specs.declared.Renderer.{Renderer}
@@ -21,8 +18,7 @@ use Rattle.glyphs.specs.BoxDrawing.{box_link}
 use Rattle.glyphs.specs.Cells.{choice_of, glyphs_of, bytes_of}
 use Rattle.output.specs.Output.{TextView, new_text}
 use Rattle.text.specs.Text.{drawn_checks, text_with, text}
-use Rattle.record.specs.declared.Outcome.TheVariants.{Ready, Refused}
-use Rattle.record.specs.Record.{next_record}
+use Rattle.record.specs.Record.{Ready, Refused, next_record}
 use Rattle.marked.specs.Marked.{plain, reservations}
 use Rattle.marked.specs.MarkedListing.{m1-mark, parent, m1-record}
 
@@ -38,7 +34,7 @@ pub record Drawable (mark : ℕ) (message : List ℕ) : Type 0 where
 pub record GiveThree (es : List Entry) : Type 0 where
   pub in_row : (v : View) (n : ℕ) → row v n es ≡ record { refusal = 3; shape = no_shape; view = v }
   pub in-preview : (v : View) (n : ℕ) → preview v n es ≡ record { refusal = 3; column = 0; width = 0; columns = v.columns; origins = v.origins }
-  pub in-width : (v : View) (n : NewNode) → width v n es ≡ record { refusal = 3; width = 0 }
+  pub in-width : (v : View) (n : Option ℕ) → width v n es ≡ record { refusal = 3; width = 0 }
   pub in-text : (glyphs : ℕ → List ℕ) (v : View) (t : TextView) (q : Renderer) (n mark : ℕ) (message out : List ℕ) → Drawable mark message
       → text_with glyphs v t q n es mark message out ≡ record { refusal = 3; length = 0; measure = 0; output = out; view = v; text = t }
 
@@ -46,7 +42,7 @@ pub record GiveThree (es : List Entry) : Type 0 where
 pub record NeverGiveThree (es : List Entry) : Type 0 where
   pub in_row : (v : View) (n : ℕ) → (row v n es).refusal ≢ 3
   pub in-preview : (v : View) (n : ℕ) → (preview v n es).refusal ≢ 3
-  pub in-width : (v : View) (n : NewNode) → (width v n es).refusal ≡ 0
+  pub in-width : (v : View) (n : Option ℕ) → (width v n es).refusal ≡ 0
   pub in-text : (glyphs : ℕ → List ℕ) (v : View) (t : TextView) (q : Renderer) (n mark : ℕ) (message out : List ℕ)
       → (text_with glyphs v t q n es mark message out).refusal ≢ 3
 
@@ -54,7 +50,7 @@ pub record NeverGiveThree (es : List Entry) : Type 0 where
 pub record Pass (es : List Entry) : Type 0 where
   pub in_row : (o : Options) (n : ℕ) → (row (new_shaper o).view n es).refusal ≡ 0
   pub in-preview : (o : Options) (n : ℕ) → (preview (new_shaper o).view n es).refusal ≡ 0
-  pub in-width : (o : Options) (n : NewNode) → (width (new_shaper o).view n es).refusal ≡ 0
+  pub in-width : (o : Options) (n : Option ℕ) → (width (new_shaper o).view n es).refusal ≡ 0
   pub in-text : (o : Options) (n mark : ℕ) (message : List ℕ) → Drawable mark message → refusal (drawn_checks mark message (row (new_shaper o).view n es)) ≡ 0
 
 -- ---- eight entries and nine, closed by computing
@@ -82,8 +78,8 @@ pub record EightAndNine : Type 0 where
   pub row-nine : map (λ (es : List Entry). (row plain 1 es).refusal) (of_each_kind 9) ≡ 3 ∷ 3 ∷ 3 ∷ 3 ∷ []
   pub preview-eight : map (λ (es : List Entry). (preview plain 1 es).refusal) (of_each_kind 8) ≡ 0 ∷ 0 ∷ 0 ∷ 0 ∷ []
   pub preview-nine : map (λ (es : List Entry). (preview plain 1 es).refusal) (of_each_kind 9) ≡ 3 ∷ 3 ∷ 3 ∷ 3 ∷ []
-  pub width-eight : map (λ (es : List Entry). (width plain (Node 1) es).refusal) (of_each_kind 8) ≡ 0 ∷ 0 ∷ 0 ∷ 0 ∷ []
-  pub width-nine : map (λ (es : List Entry). (width plain (Node 1) es).refusal) (of_each_kind 9) ≡ 3 ∷ 3 ∷ 3 ∷ 3 ∷ []
+  pub width-eight : map (λ (es : List Entry). (width plain (Some 1) es).refusal) (of_each_kind 8) ≡ 0 ∷ 0 ∷ 0 ∷ 0 ∷ []
+  pub width-nine : map (λ (es : List Entry). (width plain (Some 1) es).refusal) (of_each_kind 9) ≡ 3 ∷ 3 ∷ 3 ∷ 3 ∷ []
   pub text-eight : map (text_number 200) (of_each_kind 8) ≡ 0 ∷ 0 ∷ 0 ∷ 0 ∷ []
   pub text-nine : map (text_number 200) (of_each_kind 9) ≡ 3 ∷ 3 ∷ 3 ∷ 3 ∷ []
 
@@ -120,8 +116,8 @@ pub record InOrder : Type 0 where
   pub row-cells : (row (reservations 64) 99 (parents 8)).refusal ≡ 4
   pub preview-entries : (preview (reservations 64) 99 (parents 9)).refusal ≡ 3
   pub preview-cells : (preview (reservations 64) 99 (parents 8)).refusal ≡ 4
-  pub width-entries : (width (reservations 64) (Node 99) (parents 9)).refusal ≡ 3
-  pub width-passes : (width (reservations 64) (Node 99) (parents 8)).refusal ≡ 0
+  pub width-entries : (width (reservations 64) (Some 99) (parents 9)).refusal ≡ 3
+  pub width-passes : (width (reservations 64) (Some 99) (parents 8)).refusal ≡ 0
 
 pub in_order : InOrder
 unfolding reserve row place width text_with box_link choice_of glyphs_of bytes_of
@@ -146,15 +142,15 @@ in_order =
 -- a shaper made by hand: 64 columns, staggering, and the previous node's column to their right
 abbrev pub past_the_columns : View
 past_the_columns =
-    record { columns = (reservations 64).columns; origins = (reservations 64).origins; previous = At 64; height = 1; stagger = true; style = plain.style }
+    record { columns = (reservations 64).columns; origins = (reservations 64).origins; previous = Some 64; height = 1; stagger = true; style = plain.style }
 
 -- on at most 64 columns the width call gives at most 73, and 72 where the previous node's column is not the 65th, which no accepted row makes it
 pub record GreatestWidth : Type 0 where
-  pub most : (v : View) (n : NewNode) (es : List Entry) → length v.columns ≤ 64 → (width v n es).width ≤ 73
-  pub reached : (width past_the_columns (Node 99) (parents 8)).width ≡ 73
-  pub drawn-most : (v : View) (n : NewNode) (es : List Entry) → length v.columns ≤ 64 → v.previous ≢ At 64 → (width v n es).width ≤ 72
-  pub drawn-reached : (width (reservations 64) (Node 99) (parents 8)).width ≡ 72
-  pub drawn : (v : View) (n : ℕ) (es : List Entry) → (row v n es).refusal ≡ 0 → (row v n es).view.previous ≢ At 64
+  pub most : (v : View) (n : Option ℕ) (es : List Entry) → length v.columns ≤ 64 → (width v n es).width ≤ 73
+  pub reached : (width past_the_columns (Some 99) (parents 8)).width ≡ 73
+  pub drawn-most : (v : View) (n : Option ℕ) (es : List Entry) → length v.columns ≤ 64 → v.previous ≢ Some 64 → (width v n es).width ≤ 72
+  pub drawn-reached : (width (reservations 64) (Some 99) (parents 8)).width ≡ 72
+  pub drawn : (v : View) (n : ℕ) (es : List Entry) → (row v n es).refusal ≡ 0 → (row v n es).view.previous ≢ Some 64
 
 -- ---- a record
 

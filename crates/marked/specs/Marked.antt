@@ -1,5 +1,5 @@
 -- Document 01's marked rows M2 to M10, each clause, about the definitions that the contracts cite: closed by computing.
-use Rattle.std.specs.Prelude.{ℕ, zero, suc, ◌≡◌, refl, Bool, true, false, List, [], ◌∷◌, map, length}
+use Rattle.std.specs.Prelude.{ℕ, zero, suc, ◌≡◌, refl, Bool, true, false, List, [], ◌∷◌, map, length, Some}
 use Rattle.column.specs.declared.Column.TheVariants as column
 use Rattle.render.specs.declared.render.Ancestor.TheVariants.{Ancestor, Parent, Anonymous}
 use Rattle.render.specs.declared.render.Marks.{Marks}
@@ -9,7 +9,6 @@ use Rattle.render.specs.declared.types.Cell.{Cell}
 use Rattle.render.specs.Link.{link_of}
 use Rattle.render.specs.Lines.{cells_of}
 use Rattle.render.specs.Refusals.{no_column_left, node_line_too_wide}
-use Rattle.width.specs.declared.NewNode.TheVariants.{Node}
 use Rattle.shaper.specs.Shaper.{View, Reply, new_shaper, reserve}
 use Rattle.placing.specs.Placing.{place}
 use Rattle.row_shape.specs.Row.{RowReply, row}
@@ -198,8 +197,8 @@ pub record M10 : Type 0 where
   pub made : (new 1 false).refusal ≡ 0
   pub first : m10-first.refusal ≡ 0
   pub columns : m10-view.columns ≡ column.Parent 7 ∷ []
-  pub width-accepted : (width m10-view (Node 7) (Parent 7 ∷ Parent 8 ∷ [])).refusal ≡ 0
-  pub width : (width m10-view (Node 7) (Parent 7 ∷ Parent 8 ∷ [])).width ≡ 1
+  pub width-accepted : (width m10-view (Some 7) (Parent 7 ∷ Parent 8 ∷ [])).refusal ≡ 0
+  pub width : (width m10-view (Some 7) (Parent 7 ∷ Parent 8 ∷ [])).width ≡ 1
   pub accepted : (row m10-view 7 (Parent 7 ∷ Parent 8 ∷ [])).refusal ≡ 0
   pub cells : length (cells_of (row m10-view 7 (Parent 7 ∷ Parent 8 ∷ [])).shape) ≡ 2
   -- "The width call keeps the Rust's figure, also where the preview differs (M10)." (02, R-1)

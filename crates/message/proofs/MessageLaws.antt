@@ -1,17 +1,22 @@
 -- Laws of lines and of blanks at a line's end, for any bytes.
 use mathlib.Core.Path.{◌≡◌, refl, sym, ap, ◌∙◌}
 use mathlib.Core.Bool.{Bool, true, false, cond, ◌&&◌}
-use mathlib.Core.List.{List, [], ◌∷◌, ◌++◌}
-use Prim.Native.Nat.{ℕ, zero, suc, ◌+◌, ◌-◌, ◌<◌, ◌≤◌, min}
+use mathlib.Core.List.{List, [], ◌∷◌, ◌++◌, reverse, reverse-cons}
+use Prim.Native.Nat.{ℕ, suc, ◌+◌, ◌-◌, ◌<◌, ◌≤◌, min}
 use native.Mathlib.Nat.{not-suc-le-zero}
-use native.Mathlib.Numerals.{add-one}
 use native.Mathlib.Omega.{arith}
+use Rattle.std.specs.List.{fold, sum_by, position, position_or_len, suffix_len}
+use Rattle.std.specs.Prelude.{Some, None}
+use Rattle.std.proofs.lemmas.List.Recursion.{is_sum_by, is_position_or_len}
+use Rattle.std.proofs.lemmas.List.{length-reverse}
+use Rattle.std.proofs.lemmas.List.Folds.{prefix_len-append}
+use Rattle.std.proofs.lemmas.Bool.Decides.{nat_tests}
 use lib.Dec.{eqb, ltb, lit≤}
-use lib.ListN.{length, take, drop, get_or, replicate, take-append-drop, drop_of_length-le, length-append, length-drop, length-take}
-use lib.Seq.{drop-cons, take-suc, length-take-le, drop-drop}
+use lib.ListN.{length, take, drop, get_or, replicate, drop_of_length-le, length-append, length-take}
+use lib.Seq.{drop-drop}
 use borrow.Author.Tests.{eqb-true, eq-eqb, ne_eqb, ltb-true, ltb-false}
 use Rattle.slices.specs.Characters.{newline, blank}
-use Rattle.message.specs.Inner.{ends, first_line, other_lines}
+use Rattle.message.specs.Inner.{is_end, is_blank, ends, first_line, other_lines}
 use Rattle.message.specs.Message.{all_of, onto, lines_of, line_length, trim_end, keep_last}
 
 abbrev First-apart : List ℕ → Type 0
@@ -27,49 +32,20 @@ lines_next (x ∷ xs) h = by-case x xs (eqb x 0x0a) refl (lines_next xs)
     by-case x [] false e r = rw e refl
     by-case x (y ∷ ys) false e r = rw (e, r (omega arith)) refl
 
--- ---- whether each byte passes a test: a says it of the first i
-module _ (t : ℕ → Bool) (s : List ℕ) (i : ℕ) (a : Bool) (e : all_of t s ≡ (a && all_of t (drop i s))) where
-  and_assoc : (a b c : Bool) → (a && (b && c)) ≡ ((a && b) && c)
-  and_assoc true b c = refl
-  and_assoc false b c = refl
+-- ---- whether each byte passes a test, by a fold
+pub all-folded : (t : ℕ → Bool) (a : Bool) (s : List ℕ) → fold (λ (x : Bool) (b : ℕ). x && t b) a s ≡ (a && all_of t s)
+all-folded t true [] = refl
+all-folded t false [] = refl
+all-folded t true (x ∷ s) = all-folded t (t x) s
+all-folded t false (x ∷ s) = all-folded t false s
 
-  and-true : (a : Bool) → (a && true) ≡ a
-  and-true true = refl
-  and-true false = refl
+-- ---- the count of line ends
+pub ends-summed : (m : List ℕ) → sum_by (λ b. cond (is_end b) 1 0) m ≡ ends m
+ends-summed m = sym (is_sum_by ends (λ b. cond (is_end b) 1 0) refl (λ _ _. refl) m)
 
-  pub all-next : (x : Bool) → i < length s → x ≡ t (get_or s i 0) → all_of t s ≡ ((a && x) && all_of t (drop (i + 1) s))
-  all-next x h f = e ∙ rw (drop-cons s i 0 h, ← f, add-one i) (and_assoc a x (all_of t (drop (suc i) s)))
-
-  pub all_done : length s ≤ i → a ≡ all_of t s
-  all_done h = sym (e ∙ rw (drop_of_length-le s {i = i} h) (and-true a))
-
--- ---- the count of lines
-pub ends_next : (s : List ℕ) (i x : ℕ) → i < length s → x ≡ cond (eqb (get_or s i 0) newline) 1 0 → ends (drop i s) ≡ x + ends (drop (i + 1) s)
-ends_next s i x h e = rw (add-one i, drop-cons s i 0 h, ← e)
-
-pub ends-none : (s : List ℕ) (i : ℕ) → length s ≤ i → ends (drop i s) ≡ 0
-ends-none s i h = rw (drop_of_length-le s {i = i} h)
-
--- ---- line ends by blocks
-ends-append : (a b : List ℕ) → ends (a ++ b) ≡ ends a + ends b
+pub ends-append : (a b : List ℕ) → ends (a ++ b) ≡ ends a + ends b
 ends-append [] b = omega arith
 ends-append (x ∷ a) b = rw (ends-append a b) (omega arith)
-
--- the bytes from a up to b
-abbrev pub block : ℕ → ℕ → List ℕ → List ℕ
-block a b m = take (b - a) (drop a m)
-
-pub block-long : (m : List ℕ) (a b : ℕ) → b ≤ length m → length (block a b m) ≡ b - a
-block-long m a b h = length-take-le (b - a) (drop a m) (rw (length-drop a m) (omega arith))
-
--- what is left from a on is a block and what is left behind it
-block_apart : (m : List ℕ) (a b : ℕ) → a ≤ b → drop a m ≡ block a b m ++ drop b m
-block_apart m a b h =
-    let e : a + (b - a) ≡ b = omega arith in
-    sym (take-append-drop (b - a) (drop a m)) ∙ ap (λ (r : List ℕ). block a b m ++ r) (drop-drop (b - a) a m ∙ ap (λ (k : ℕ). drop k m) e)
-
-pub ends-block : (m : List ℕ) (a b : ℕ) → a ≤ b → ends (drop a m) ≡ ends (block a b m) + ends (drop b m)
-ends-block m a b h = ap ends (block_apart m a b h) ∙ ends-append (block a b m) (drop b m)
 
 pub ends-few : (m : List ℕ) → ends m ≤ length m
 ends-few [] = omega arith
@@ -79,19 +55,51 @@ ends-few (x ∷ m) = go (eqb x newline) (ends-few m)
     go true h = omega arith
     go false h = omega arith
 
--- a line goes on behind bytes that end none
-line-append : (a b : List ℕ) → ends a ≡ 0 → line_length (a ++ b) ≡ length a + line_length b
-line-append [] b e = omega arith
-line-append (x ∷ a) b e = go (eqb x newline) refl (line-append a b)
-  where
-    go : (t : Bool) → eqb x newline ≡ t → (ends a ≡ 0 → line_length (a ++ b) ≡ length a + line_length b) → cond (eqb x newline) 0 (suc (line_length (a ++ b))) ≡ suc (length a) + line_length b
-    go true q r = let z : 1 + ends a ≡ 0 = rw q at e in absurd (omega (arith, z))
-    go false q r = let z : 0 + ends a ≡ 0 = rw q at e in rw q (omega (arith, r (omega (arith, z))))
+-- ---- the first line, by blocks
+line-place : (m : List ℕ) → line_length m ≡ position_or_len is_end m
+line-place m = is_position_or_len line_length is_end refl (λ x xs. ap (λ (n : ℕ). cond (is_end x) 0 n) (omega arith)) m
 
-pub line-block : (m : List ℕ) (a b : ℕ) → a ≤ b → b ≤ length m → ends (block a b m) ≡ 0 → a + line_length (drop a m) ≡ b + line_length (drop b m)
-line-block m a b h k e =
-    let w : line_length (drop a m) ≡ length (block a b m) + line_length (drop b m) = ap line_length (block_apart m a b h) ∙ line-append (block a b m) (drop b m) e in
-    omega (arith, w, block-long m a b k)
+line-append : (a b : List ℕ) → line_length (a ++ b) ≡ cond (ltb (line_length a) (length a)) (line_length a) (length a + line_length b)
+line-append [] b = omega arith
+line-append (x ∷ a) b = go (eqb x newline) (line-append a b)
+  where
+    go : (t : Bool) → line_length (a ++ b) ≡ cond (ltb (line_length a) (length a)) (line_length a) (length a + line_length b)
+        → cond t 0 (suc (line_length (a ++ b))) ≡ cond (ltb (cond t 0 (suc (line_length a))) (suc (length a))) (cond t 0 (suc (line_length a))) (suc (length a) + line_length b)
+    go true e = grind (arith, nat_tests)
+    go false e = grind (arith, nat_tests, e)
+
+-- bytes that end no line are of one line
+all-passed : (a : List ℕ) → ends a ≡ 0 → line_length a ≡ length a
+all-passed [] e = refl
+all-passed (x ∷ a) e = go (eqb x newline) (all-passed a) e
+  where
+    go : (t : Bool) → (ends a ≡ 0 → line_length a ≡ length a) → cond t 1 0 + ends a ≡ 0 → cond t 0 (suc (line_length a)) ≡ suc (length a)
+    go true r e = absurd (omega arith)
+    go false r e = ap suc (r (omega arith))
+
+pub line-of-none : (a : List ℕ) → ends a ≡ 0 → position is_end a ≡ None
+line-of-none a e =
+    let p : position_or_len is_end a ≡ length a = sym (line-place a) ∙ all-passed a e in
+    let q : ltb (position_or_len is_end a) (length a) ≡ false = grind (arith, nat_tests) in
+    rw q refl
+
+pub line-found : (a b : List ℕ) (e : ℕ) → position is_end a ≡ Some e → line_length (a ++ b) ≡ e
+line-found a b e h =
+    go (ltb (position_or_len is_end a) (length a)) refl h
+  where
+    go : (t : Bool) → ltb (position_or_len is_end a) (length a) ≡ t → cond t (Some (position_or_len is_end a)) None ≡ Some e → line_length (a ++ b) ≡ e
+    go true q h =
+        let f : position_or_len is_end a ≡ e = cc in
+        line-append a b ∙ rw (line-place a, q) f
+    go false q h = absurd (cc)
+
+pub line-passed : (a b : List ℕ) → position is_end a ≡ None → line_length (a ++ b) ≡ length a + line_length b
+line-passed a b h =
+    go (ltb (position_or_len is_end a) (length a)) refl h
+  where
+    go : (t : Bool) → ltb (position_or_len is_end a) (length a) ≡ t → cond t (Some (position_or_len is_end a)) None ≡ None → line_length (a ++ b) ≡ length a + line_length b
+    go true q h = absurd (cc)
+    go false q h = line-append a b ∙ rw (line-place a, q) refl
 
 onto-long : (b : ℕ) (l : List (List ℕ)) → 0 < length l → length (onto b l) ≡ length l
 onto-long b [] h = absurd (not-suc-le-zero h)
@@ -138,17 +146,6 @@ module _ (m : List ℕ) (n k : ℕ) (e : k ≡ ends m) (l : n ≡ length m) wher
       let w : unended m ≡ 1 = rw (← l, ne_eqb (get_or m (n - 1) 0) newline q) in
       omega (arith, lines-counted m (rw (← l) h), w)
 
--- ---- a search for the line's end
-module _ (s : List ℕ) (e : ℕ) where
-  pub length_more : e < length s → (get_or s e 0 ≡ 0x0a → ⊥) → line_length (drop e s) ≡ suc (line_length (drop (e + 1) s))
-  length_more h n = rw (add-one, drop-cons s e 0, ne_eqb (get_or s e 0) 0x0a n) refl
-
-  pub length-here : e < length s → get_or s e 0 ≡ 0x0a → line_length (drop e s) ≡ 0
-  length-here h q = rw (drop-cons s e 0, eq-eqb (get_or s e 0) 0x0a q) refl
-
-  pub length-past : length s ≤ e → line_length (drop e s) ≡ 0
-  length-past h = rw (drop_of_length-le s h) refl
-
 pub line-within : (s : List ℕ) → line_length s ≤ length s
 line-within [] = lit≤ tt
 line-within (x ∷ xs) = by-test (eqb x 0x0a) (line-within xs)
@@ -194,38 +191,6 @@ trim-behind [] ys h = refl
 trim-behind (x ∷ xs) ys h =
     ap (keep_last x) (trim-behind xs ys h) ∙ keep-more x (xs ++ trim_end ys) (rw (length-append xs (trim_end ys)) (omega arith))
 
--- a blank, and another byte, at the end
-pub trim-blank : (xs : List ℕ) → trim_end (xs ++ (0x20 ∷ [])) ≡ trim_end xs
-trim-blank xs = trim-front xs (0x20 ∷ []) refl
-
-trim-other : (xs : List ℕ) (y : ℕ) → (y ≡ 0x20 → ⊥) → trim_end (xs ++ (y ∷ [])) ≡ xs ++ (y ∷ [])
-trim-other xs y n =
-    let e : trim_end (y ∷ []) ≡ y ∷ [] = rw (ne_eqb y 0x20 n) refl in
-    trim-behind xs (y ∷ []) (rw e (lit≤ tt)) ∙ ap (λ (l : List ℕ). xs ++ l) e
-
--- ---- a search for the last byte that is no blank
-module _ (s : List ℕ) (n : ℕ) where
-  pub trim-less : 0 < n → n ≤ length s → get_or s (n - 1) 0 ≡ 0x20 → trim_end (take n s) ≡ trim_end (take (n - 1) s)
-  trim-less z h q =
-      let e : n ≡ suc (n - 1) = omega arith in
-      let l : n - 1 < length s = omega arith in
-      ap (λ (k : ℕ). trim_end (take k s)) e ∙ rw (take-suc s (n - 1) 0 l, q) (trim-blank (take (n - 1) s))
-
-  pub trim-here : 0 < n → n ≤ length s → (get_or s (n - 1) 0 ≡ 0x20 → ⊥) → trim_end (take n s) ≡ take n s
-  trim-here z h q =
-      let e : n ≡ suc (n - 1) = omega arith in
-      let l : n - 1 < length s = omega arith in
-      let t : take n s ≡ take (n - 1) s ++ (get_or s (n - 1) 0 ∷ []) = ap (λ (k : ℕ). take k s) e ∙ take-suc s (n - 1) 0 l in
-      rw t (trim-other (take (n - 1) s) (get_or s (n - 1) 0) q)
-
-  pub trimmed : n ≤ length s → trim_end s ≡ trim_end (take n s) → trim_end (take n s) ≡ take n s
-      → (n ≡ length (trim_end s)) × (take n s ≡ trim_end s)
-  trimmed h p q = (sym (ap length (p ∙ q) ∙ length-take-le n s h), sym (p ∙ q))
-
-pub trim-none : (s : List ℕ) (n : ℕ) → n ≤ 0 → trim_end (take n s) ≡ take n s
-trim-none s zero h = refl
-trim-none s (suc n) h = absurd (not-suc-le-zero h)
-
 -- what is left is a front
 pub trim-take : (s : List ℕ) → take (length (trim_end s)) s ≡ trim_end s
 trim-take [] = refl
@@ -263,6 +228,29 @@ trim-blanks (x ∷ xs) = go (trim_end xs) (trim-blanks xs)
     go (y ∷ t) e =
         let k : suc (length xs) - suc (suc (length t)) ≡ length xs - suc (length t) = omega arith in
         rw k (ap (λ (l : List ℕ). x ∷ l) e)
+
+-- how many blanks it lacks, counted from the end
+pub trim-counted : (s : List ℕ) → length (trim_end s) + suffix_len is_blank s ≡ length s
+trim-counted [] = refl
+trim-counted (x ∷ xs) =
+    let e : suffix_len is_blank (x ∷ xs) ≡ cond (eqb (suffix_len is_blank xs) (length xs)) (length xs + cond (is_blank x) 1 0) (suffix_len is_blank xs) =
+    rw (reverse-cons x xs, prefix_len-append is_blank (reverse xs) (x ∷ []), length-reverse xs) (by-test (is_blank x)) in
+    go (trim_end xs) (suffix_len is_blank xs) (eqb x blank) refl (trim-counted xs) e
+  where
+    go : (t : List ℕ) (k : ℕ) (b : Bool) → eqb x blank ≡ b → length t + k ≡ length xs → suffix_len is_blank (x ∷ xs) ≡ cond (eqb k (length xs)) (length xs + cond b 1 0) k
+        → length (keep_last x t) + suffix_len is_blank (x ∷ xs) ≡ suc (length xs)
+    go [] k true q h e = rw q (grind (arith, nat_tests))
+    go [] k false q h e = rw q (grind (arith, nat_tests))
+    go (y ∷ t) k b q h e = grind (arith, nat_tests)
+
+    by-test : (b : Bool) → cond (eqb (suffix_len is_blank xs) (length xs)) (length xs + cond b (1 + 0) 0) (suffix_len is_blank xs) ≡ cond (eqb (suffix_len is_blank xs) (length xs)) (length xs + cond b 1 0) (suffix_len is_blank xs)
+    by-test true = refl
+    by-test false = refl
+
+pub trim-by-count : (s : List ℕ) (k : ℕ) → k ≡ suffix_len is_blank s → (length s - k ≡ length (trim_end s)) × (take (length s - k) s ≡ trim_end s)
+trim-by-count s k e =
+    let h : length s - k ≡ length (trim_end s) = omega (arith, e, trim-counted s) in
+    (h, ap (λ (n : ℕ). take n s) h ∙ trim-take s)
 
 -- what is left has no more to lose
 pub trim-again : (s : List ℕ) → trim_end (trim_end s) ≡ trim_end s

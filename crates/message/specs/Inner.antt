@@ -1,7 +1,15 @@
 -- What the inner functions of a message give.
-use Rattle.std.specs.Prelude.{ℕ, suc, ◌+◌, cond, List, [], ◌∷◌, eqb, take, drop}
-use Rattle.slices.specs.Characters.{newline}
+use Rattle.std.specs.Prelude.{ℕ, suc, ◌+◌, Bool, cond, List, [], ◌∷◌, eqb, take, drop}
+use Rattle.slices.specs.Characters.{newline, blank}
 use Rattle.message.specs.Message.{line_length}
+
+-- whether a byte ends a line
+abbrev pub is_end : ℕ → Bool
+is_end b = eqb b newline
+
+-- whether a byte is a blank
+abbrev pub is_blank : ℕ → Bool
+is_blank b = eqb b blank
 
 -- the count of line ends
 abbrev pub ends : List ℕ → ℕ

@@ -1,9 +1,9 @@
 // A message: its bytes, its lines (pad.rs and the `lines` that it pads), and blanks at the end of a line.
 #![tactic(auto)]
 
-ghost use Rattle.std.specs.Prelude.{◌≡◌, suc, ◌+◌, ◌≤◌, min, length, take, drop, cond, eqb};
-ghost use Rattle.slices.specs.Characters.{newline};
-ghost use Rattle.message.specs.Inner.{ends, block_length};
+ghost use Rattle.std.specs.Prelude.{◌≡◌, suc, ◌+◌, ◌≤◌, min, length, take, drop, position};
+ghost use Rattle.std.specs.List.{suffix_len};
+ghost use Rattle.message.specs.Inner.{is_end, is_blank, ends, block_length};
 ghost use Rattle.message.specs.Message.{is_writable, all_of, lines_of, line_length, trim_end};
 
 // The greatest length of a message.
@@ -16,49 +16,24 @@ const BLOCK: usize = 64;
 fn is_writable(byte: u8) -> bool
     ensures { result ≡ is_writable byte }
 {
-    (byte == 0x0a) | ((0x20 <= byte) & (byte <= 0x7e))
+    matches!(byte, 0x0a | 0x20..=0x7e)
 }
 
-// Whether a message may hold each of the bytes.
+// Whether a message may hold each of the bytes. It leaves at no byte early, so that the compiler looks at 16 bytes at once (docs/SPEED.md).
 pub fn are_writable(message: &[u8]) -> bool
     ensures { result ≡ all_of is_writable message.now }
 {
-    let mut all = true;
-    let mut i: usize = 0;
-    while i < message.len() {
-        all = all & is_writable(message[i]);
-        i += 1;
-    }
-    all
+    message
+        .iter()
+        .fold(true, |all, &byte| all & is_writable(byte))
 }
 
-// 1 for a line's end.
-fn ended_by(byte: u8) -> u8
-    ensures { (result ≡ cond (eqb byte newline) 1 0) × (result ≤ 1) }
+// How many of a block's bytes end a line; the count is a byte, so that the compiler counts 16 bytes at once (docs/SPEED.md).
+fn ends_of(block: &[u8]) -> u8
+    requires { length block.now ≤ block_length }
+    ensures { result ≡ ends block.now }
 {
-    if byte == 0x0a { 1 } else { 0 }
-}
-
-// How many of a few bytes end a line.
-fn ends_of(bytes: &[u8]) -> u8
-    requires { length bytes.now ≤ block_length }
-    ensures { result ≡ ends bytes.now }
-{
-    let mut count: u8 = 0;
-    let mut i: usize = 0;
-    while i < bytes.len() {
-        count += ended_by(bytes[i]);
-        i += 1;
-    }
-    count
-}
-
-// Where a block from `at` on ends, of `n` bytes.
-fn block_end(at: usize, n: usize) -> usize
-    requires { at ≤ n }
-    ensures { result ≡ min (at + block_length) n }
-{
-    if n - at < BLOCK { n } else { at + BLOCK }
+    block.iter().map(|&byte| u8::from(byte == b'\n')).sum()
 }
 
 // How many of a message's lines are ended.
@@ -66,44 +41,45 @@ fn line_ends(message: &[u8]) -> usize
     ensures { (result ≡ ends message.now) × (result ≤ length message.now) }
 {
     let mut count: usize = 0;
-    let mut at: usize = 0;
-    while at < message.len() {
-        let end = block_end(at, message.len());
-        count += ends_of(&message[at..end]) as usize;
-        at = end;
+    for block in message.chunks(BLOCK) {
+        count += ends_of(block) as usize;
     }
     count
 }
 
-// The end of the line from `start` on, or a place before it: blocks that end no line are passed over.
-fn near_line_end(message: &[u8], start: usize) -> usize
-    ensures { (start ≤ result) × (start + line_length (drop start message.now) ≡ result + line_length (drop result message.now)) }
+// Where a block's first line end is; a block that ends no line is passed over at once.
+fn end_in(block: &[u8]) -> Option<usize>
+    requires { length block.now ≤ block_length }
+    ensures { result ≡ position is_end block.now }
 {
-    let mut end = start;
-    while end < message.len() {
-        if message.len() - end < BLOCK {
-            return end;
-        }
-        if ends_of(&message[end..end + BLOCK]) != 0 {
-            return end;
-        }
-        end += BLOCK;
+    if ends_of(block) == 0 {
+        return None;
     }
-    end
+    block.iter().position(|&byte| byte == b'\n')
+}
+
+// The length of the first line: up to the first 0A, or all bytes.
+fn first_line_length(bytes: &[u8]) -> usize
+    ensures { result ≡ line_length bytes.now }
+{
+    let mut passed: usize = 0;
+    for block in bytes.chunks(BLOCK) {
+        match end_in(block) {
+            Some(end) => return passed + end,
+            None => passed += block.len(),
+        }
+    }
+    passed
 }
 
 // Where the line from `start` on ends: at the next 0A, or where the message ends.
 pub fn line_end(message: &[u8], start: usize) -> usize
     ensures { result ≡ start + line_length (drop start message.now) }
 {
-    let mut end = near_line_end(message, start);
-    while end < message.len() {
-        if message[end] == 0x0a {
-            return end;
-        }
-        end += 1;
+    match message.get(start..) {
+        Some(rest) => start + first_line_length(rest),
+        None => start,
     }
-    end
 }
 
 // Where the line behind one that ends at `end` starts.
@@ -131,16 +107,16 @@ pub fn line_count(message: &[u8]) -> usize
     count + 1
 }
 
+// How many blanks stand at a line's end.
+fn blanks_at_end(line: &[u8]) -> usize
+    ensures { result ≡ suffix_len is_blank line.now }
+{
+    line.iter().rev().take_while(|&&byte| byte == b' ').count()
+}
+
 // The length of a line without the blanks at its end (`trim_end`).
 pub fn trimmed_length(line: &[u8]) -> usize
     ensures { (result ≡ length (trim_end line.now)) × (take result line.now ≡ trim_end line.now) }
 {
-    let mut n = line.len();
-    while 0 < n {
-        if line[n - 1] != 0x20 {
-            return n;
-        }
-        n -= 1;
-    }
-    n
+    line.len() - blanks_at_end(line)
 }

@@ -3,16 +3,17 @@
 use Prim.Native.Nat.{ℕ, ◌<◌}
 use mathlib.Core.Path.{◌≡◌, refl, sym, ◌∙◌, ap, subst}
 use mathlib.Core.Logic.{◌≢◌, ◌↔◌, ◌⊎◌, inl, inr}
-use mathlib.Core.Bool.{Bool, true, false, cond, ◌||◌, or-true, or-false, or_assoc, false≢true}
+use mathlib.Core.Bool.{Bool, true, false, cond, ◌||◌, or-true, or-false, false≢true}
 use mathlib.Core.List.{List, [], ◌∷◌, ◌++◌}
 use mathlib.Core.Option.{some, none-ne-some}
 use native.Mathlib.Omega.{arith}
 use borrow.Author.Tests.{eqb-true, eq-eqb, ne_eqb, lt-ltb, ltb-true}
 use lib.Dec.{eqb, ltb}
 use lib.ListN.{length}
+use Rattle.std.specs.Prelude.{Some, None}
+use Rattle.std.proofs.lemmas.List.Folds.{list_any-append}
 use Rattle.column.specs.declared.Column.{Column}
 use Rattle.column.specs.declared.Column.TheVariants.{Empty}
-use Rattle.column.specs.declared.Found.TheVariants.{At, Nothing}
 use Rattle.column.specs.Columns.{id_of, at, put, origin_at}
 use Rattle.column.proofs.Positions.{at-put-same, at-put-other, length-put}
 use Rattle.render.specs.declared.render.Ancestor.{Ancestor as Entry}
@@ -34,18 +35,14 @@ use Rattle.no_gap.proofs.RowsLed.{unheld-own}
 use Rattle.no_gap.proofs.Spans.{no-gap-same}
 
 -- ---- lists of columns
-in_appended : (t : ℕ) (ps qs : List ℕ) → is_in t (ps ++ qs) ≡ (is_in t ps || is_in t qs)
-in_appended t [] qs = refl
-in_appended t (p ∷ ps) qs = ap (λ (x : Bool). eqb t p || x) (in_appended t ps qs) ∙ sym (or_assoc (eqb t p) (is_in t ps) (is_in t qs))
-
 in_left : (t : ℕ) (ps qs : List ℕ) → In ps t → In (ps ++ qs) t
-in_left t ps qs h = in_appended t ps qs ∙ rw h
+in_left t ps qs h = list_any-append (eqb t) ps qs ∙ rw h
 
 in_right : (t : ℕ) (ps qs : List ℕ) → In qs t → In (ps ++ qs) t
-in_right t ps qs h = in_appended t ps qs ∙ rw h (or-true (is_in t ps))
+in_right t ps qs h = list_any-append (eqb t) ps qs ∙ rw h (or-true (is_in t ps))
 
 in_either : (t : ℕ) (ps qs : List ℕ) → In (ps ++ qs) t → In ps t ⊎ In qs t
-in_either t ps qs h = go (is_in t ps) refl (sym (in_appended t ps qs) ∙ h)
+in_either t ps qs h = go (is_in t ps) refl (sym (list_any-append (eqb t) ps qs) ∙ h)
   where
     go : (x : Bool) → is_in t ps ≡ x → (x || is_in t qs) ≡ true → In ps t ⊎ In qs t
     go true e z = inl e
@@ -145,7 +142,7 @@ module _ (c : ℕ) (cs : List Column) (one : One cs) where
   given_out (e ∷ f ∷ es) t h = absurd (false≢true h)
   given_out (e ∷ []) t h = go (ltb c (column_of_parent c e bare)) refl h
     where
-      go : (b : Bool) → ltb c (column_of_parent c e bare) ≡ b → In (given_up (cond b (At (column_of_parent c e bare)) Nothing)) t → (x : ℕ) × OneEntry x (e ∷ []) × (c < t) × Holds cs t x
+      go : (b : Bool) → ltb c (column_of_parent c e bare) ≡ b → In (given_up (cond b (Some (column_of_parent c e bare)) None)) t → (x : ℕ) × OneEntry x (e ∷ []) × (c < t) × Holds cs t x
       go true q z =
           let k : t ≡ column_of_parent c e bare = eqb-true t (column_of_parent c e bare) (sym (or-false (eqb t (column_of_parent c e bare))) ∙ z) in
           let l : c < column_of_parent c e bare = ltb-true c (column_of_parent c e bare) q in

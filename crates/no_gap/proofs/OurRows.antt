@@ -10,16 +10,13 @@ use Rattle.render.specs.declared.types.Options.{Options}
 use Rattle.render.specs.declared.types.RowShape.{RowShape}
 use Rattle.render.specs.Entries.{listed}
 use Rattle.shaper.specs.declared.Shaper.{Shaper}
-use Rattle.shaper.specs.declared.Answer.{Answer}
-use Rattle.shaper.specs.Shaper.{View, view_of, new_shaper, Fresh}
+use Rattle.shaper.specs.Shaper.{View, view_of, new_shaper, Fresh, Answer}
 use Rattle.shaper.specs.NodeColumn.{node_column}
 use Rattle.placing.specs.Placing.{place}
-use Rattle.row_shape.specs.declared.RowAnswer.{RowAnswer}
 use Rattle.row_shape.specs.Row.{RowReply, row}
-use Rattle.row_shape.specs.Promises.{Rows, row_reply_of}
+use Rattle.row_shape.specs.Promises.{Rows, row_reply_of, RowAnswer}
 use Rattle.glyphs.specs.declared.Renderer.{Renderer}
-use Rattle.lineage.specs.declared.ShapeAnswer.{ShapeAnswer}
-use Rattle.lineage.specs.Promises.{ancestors, LentRows}
+use Rattle.lineage.specs.Promises.{ancestors, LentRows, ShapeAnswer}
 use Rattle.steps.specs.Steps.{program_options}
 use Rattle.steps.specs.Files.{reads_of}
 use Rattle.history.specs.Account.{Call, Reserve, Row, call_id, is_drawn, nobody}

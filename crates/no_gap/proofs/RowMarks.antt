@@ -9,9 +9,8 @@ use native.Mathlib.Decide.{dec_lt}
 use borrow.Author.Tests.{eqb-true, eqb-false, ltb-true, ltb-false, lt-ltb, le-ltb, eq-eqb, ne_eqb}
 use lib.Dec.{eqb, ltb}
 use lib.ListN.{get_or, get_or-eq_default}
-use Rattle.column.specs.declared.Found.{Found}
-use Rattle.column.specs.declared.Found.TheVariants.{At, Nothing}
-use Rattle.column.specs.Columns.{or_else}
+use Rattle.std.specs.Prelude.{Some, None, unwrap_or}
+use Rattle.column.specs.Found.{Found}
 use Rattle.render.specs.declared.render.LinkLine.{LinkLine}
 use Rattle.render.specs.declared.render.Marks.{Marks}
 use Rattle.render.specs.Link.{meets, no_marks, only, link_of}
@@ -82,7 +81,7 @@ right-count false false swap solid near all d n h g = refl
 pub record Known (f : Found) (draws : ℕ → Drawn) (w c : ℕ) : Type 0 where
   pub below : (t : ℕ) → is_drawn (draws t) ≡ true → t < w
   pub inside : c < w
-  pub up : (p : ℕ) → f ≡ At p → (c < p) × (p < w) × ((i : ℕ) → i ≢ c → draws i ≡ Nobody)
+  pub up : (p : ℕ) → f ≡ Some p → (c < p) × (p < w) × ((i : ℕ) → i ≢ c → draws i ≡ Nobody)
 
 -- whether a column is an entry's, or the one given up
 abbrev pub is_reached : Found → (ℕ → Drawn) → ℕ → Bool
@@ -132,7 +131,7 @@ module _ (draws : ℕ → Drawn) (w c : ℕ) where
   -- ---- with the column given up
 
   -- in a swap nobody draws but in the node's column
-  narrow : (p : ℕ) → Known (At p) draws w c → (a ≡ c) × (b ≡ c)
+  narrow : (p : ℕ) → Known (Some p) draws w c → (a ≡ c) × (b ≡ c)
   narrow p K = (alone a S.first, alone b S.last)
     where
       S : Span (λ t. is_drawn (draws t)) c a b
@@ -147,8 +146,8 @@ module _ (draws : ℕ → Drawn) (w c : ℕ) where
           go false e = absurd (false≢true (ap is_drawn (sym ((K.up p refl).2 t (eqb-false t c e))) ∙ h))
 
   reached-below : (f : Found) → Known f draws w c → (t : ℕ) → is_reached f draws t ≡ true → t < w
-  reached-below Nothing K t h = K.below t (sym (or-false (is_drawn (draws t))) ∙ h)
-  reached-below (At p) K t h = go (is_drawn (draws t)) refl (eqb p t) refl h
+  reached-below None K t h = K.below t (sym (or-false (is_drawn (draws t))) ∙ h)
+  reached-below (Some p) K t h = go (is_drawn (draws t)) refl (eqb p t) refl h
     where
       go : (x : Bool) → is_drawn (draws t) ≡ x → (y : Bool) → eqb p t ≡ y → (x || y) ≡ true → t < w
       go true e y q z = K.below t e
@@ -156,8 +155,8 @@ module _ (draws : ℕ → Drawn) (w c : ℕ) where
       go false e false q z = absurd (false≢true z)
 
   -- with the column given up, the columns reach from the leftmost entry to the last
-  reached-span : (f : Found) → Known f draws w c → Span (is_reached f draws) c a (or_else f b)
-  reached-span Nothing K =
+  reached-span : (f : Found) → Known f draws w c → Span (is_reached f draws) c a (unwrap_or f b)
+  reached-span None K =
       let S = entries-span K.below in
       record {
         low = λ t h. S.low t (sym (or-false (is_drawn (draws t))) ∙ h);
@@ -168,10 +167,10 @@ module _ (draws : ℕ → Drawn) (w c : ℕ) where
         last = widen b S.last;
       }
     where
-      widen : (t : ℕ) → (t ≡ c) ⊎ (is_drawn (draws t) ≡ true) → (t ≡ c) ⊎ (is_reached Nothing draws t ≡ true)
+      widen : (t : ℕ) → (t ≡ c) ⊎ (is_drawn (draws t) ≡ true) → (t ≡ c) ⊎ (is_reached None draws t ≡ true)
       widen t (inl e) = inl e
       widen t (inr h) = inr (or-false (is_drawn (draws t)) ∙ h)
-  reached-span (At p) K =
+  reached-span (Some p) K =
       let n = narrow p K in
       let l : c < p = (K.up p refl).0 in
       record {
@@ -183,7 +182,7 @@ module _ (draws : ℕ → Drawn) (w c : ℕ) where
         last = inr (rw (eq-eqb p p refl) (or-true (is_drawn (draws p))));
       }
     where
-      within : (t : ℕ) → is_reached (At p) draws t ≡ true → (c ≤ t) × (t ≤ p)
+      within : (t : ℕ) → is_reached (Some p) draws t ≡ true → (c ≤ t) × (t ≤ p)
       within t h = go (eqb t c) refl (eqb p t) refl
         where
           go : (x : Bool) → eqb t c ≡ x → (y : Bool) → eqb p t ≡ y → (c ≤ t) × (t ≤ p)
@@ -193,34 +192,34 @@ module _ (draws : ℕ → Drawn) (w c : ℕ) where
 
   -- the column given up lies right of the node's, and nobody draws in it
   gone-facts : (f : Found) → Known f draws w c → (i : ℕ) → is_at f i ≡ true → (draws i ≡ Nobody) × (eqb i c ≡ false) × (ltb c i ≡ true)
-  gone-facts Nothing K i h = absurd (false≢true h)
-  gone-facts (At p) K i h =
+  gone-facts None K i h = absurd (false≢true h)
+  gone-facts (Some p) K i h =
       let l : c < i = omega (arith, eqb-true p i h, (K.up p refl).0) in
       let n : i ≢ c = λ z. omega arith in
       ((K.up p refl).2 i n, ne_eqb i c n, lt-ltb c i l)
 
   swap-facts : (f : Found) → Known f draws w c → found_as (λ p. true) f ≡ true → ltb c b ≡ false
-  swap-facts Nothing K h = absurd (false≢true h)
-  swap-facts (At p) K h = le-ltb c b (omega (arith, (narrow p K).1))
+  swap-facts None K h = absurd (false≢true h)
+  swap-facts (Some p) K h = le-ltb c b (omega (arith, (narrow p K).1))
 
   -- what stands between the outermost columns, said with the last one
   bar-is : (f : Found) → Known f draws w c → (i : ℕ)
-      → ((ltb a i && ltb i b) || (ltb c i && found_as (ltb i) f)) ≡ (ltb a i && ltb i (or_else f b))
-  bar-is Nothing K i = rw (and-false (ltb c i)) (or-false (ltb a i && ltb i b))
-  bar-is (At p) K i = let n = narrow p K in rw (n.0, n.1) (go (ltb c i) refl)
+      → ((ltb a i && ltb i b) || (ltb c i && found_as (ltb i) f)) ≡ (ltb a i && ltb i (unwrap_or f b))
+  bar-is None K i = rw (and-false (ltb c i)) (or-false (ltb a i && ltb i b))
+  bar-is (Some p) K i = let n = narrow p K in rw (n.0, n.1) (go (ltb c i) refl)
     where
       go : (x : Bool) → ltb c i ≡ x → ((x && ltb i c) || (x && ltb i p)) ≡ (x && ltb i p)
       go true e = rw (le-ltb i c (omega (arith, ltb-true c i e)))
       go false e = refl
 
-  far-is : (f : Found) → Known f draws w c → (ltb c b || found_as (λ p. true) f) ≡ ltb c (or_else f b)
-  far-is Nothing K = or-false (ltb c b)
-  far-is (At p) K = rw ((narrow p K).1, le-ltb c c (omega arith), lt-ltb c p (K.up p refl).0)
+  far-is : (f : Found) → Known f draws w c → (ltb c b || found_as (λ p. true) f) ≡ ltb c (unwrap_or f b)
+  far-is None K = or-false (ltb c b)
+  far-is (Some p) K = rw ((narrow p K).1, le-ltb c c (omega arith), lt-ltb c p (K.up p refl).0)
 
   -- the column given up is not left of the node's
   left-reached : (f : Found) → Known f draws w c → (i : ℕ) → (ltb i c && is_drawn (draws i)) ≡ (ltb i c && is_reached f draws i)
-  left-reached Nothing K i = rw (or-false (is_drawn (draws i)))
-  left-reached (At p) K i = go (ltb i c) refl
+  left-reached None K i = rw (or-false (is_drawn (draws i)))
+  left-reached (Some p) K i = go (ltb i c) refl
     where
       go : (x : Bool) → ltb i c ≡ x → (x && is_drawn (draws i)) ≡ (x && (is_drawn (draws i) || eqb p i))
       go true e = rw (ne_eqb p i (λ z. omega (arith, ltb-true i c e, (K.up p refl).0))) (sym (or-false (is_drawn (draws i))))
@@ -280,7 +279,7 @@ module _ (draws : ℕ → Drawn) (w c : ℕ) where
         (at-marks : (i : ℕ) → i < w → marks i ≡ link_cell (linked bounds (swap_of f)) (from_node bounds (swap_of f) i (draws i)))
         (past-marks : (i : ℕ) → w ≤ i → marks i ≡ no_marks) where
       abbrev last : ℕ
-      last = or_else f b
+      last = unwrap_or f b
 
       S : Span (is_reached f draws) c a last
       S = reached-span f K

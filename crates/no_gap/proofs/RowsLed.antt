@@ -10,11 +10,11 @@ use native.Mathlib.Decide.{ℕ_discrete, dec_lt}
 use borrow.Author.Tests.{eqb-true, ltb-true, eq-eqb, ne_eqb}
 use lib.Dec.{eqb, ltb}
 use lib.ListN.{length, get_or, get_or-eq_default}
+use Rattle.std.specs.Prelude.{Some, None, unwrap_or}
 use Rattle.column.specs.declared.Column.{Column}
 use Rattle.column.specs.declared.Column.TheVariants.{Empty, Blocked}
-use Rattle.column.specs.declared.Found.{Found}
-use Rattle.column.specs.declared.Found.TheVariants.{At, Nothing}
-use Rattle.column.specs.Columns.{id_of, is_empty, is_parent, first, find, find_empty, or_else, merge, at, put}
+use Rattle.column.specs.Found.{Found}
+use Rattle.column.specs.Columns.{id_of, is_empty, is_parent, first, find, find_empty, merge, at, put}
 use Rattle.column.proofs.Positions.{at-put-same, length-put}
 use Rattle.render.specs.declared.render.Ancestor.{Ancestor as Entry}
 use Rattle.render.specs.declared.render.Ancestor.TheVariants.{Ancestor as Indirect, Parent as Direct, Anonymous}
@@ -52,7 +52,7 @@ abbrev draws_in : ℕ → List Entry → List Column → ℕ → Drawn
 draws_in c es cs i = kind_of (draws_at (gave_up c es cs) c es cs i)
 
 -- an entry that no column holds goes to the node's column, which is Empty
-own-empty : (c : ℕ) (cs : List Column) → at cs c ≡ Empty → c < length cs → find_empty c cs ≡ At c
+own-empty : (c : ℕ) (cs : List Column) → at cs c ≡ Empty → c < length cs → find_empty c cs ≡ Some c
 own-empty c cs e l = go (get_or cs c Blocked) (same cs c l ∙ e)
   where
     same : (cs : List Column) (c : ℕ) → c < length cs → get_or cs c Blocked ≡ at cs c
@@ -60,20 +60,20 @@ own-empty c cs e l = go (get_or cs c Blocked) (same cs c l ∙ e)
     same (d ∷ cs) zero l = refl
     same (d ∷ cs) (suc c) l = same cs c (omega arith)
 
-    go : (d : Column) → d ≡ Empty → cond (is_empty d) (At c) (first is_empty cs) ≡ At c
+    go : (d : Column) → d ≡ Empty → cond (is_empty d) (Some c) (first is_empty cs) ≡ Some c
     go d z = rw z
 
 pub unheld-own : (c : ℕ) (e : Entry) (cs : List Column) → at cs c ≡ Empty → c < length cs → ((n i : ℕ) → entry_id e ≡ some n → Holds cs i n → ⊥) → column_of_parent c e cs ≡ c
-unheld-own c e cs b l h = ap (λ (k : ℕ). or_else (held_by e cs) k) own ∙ by-entry e h
+unheld-own c e cs b l h = ap (λ (k : ℕ). unwrap_or (held_by e cs) k) own ∙ by-entry e h
   where
-    own : or_else (find_empty c cs) (length cs) ≡ c
-    own = ap (λ (f : Found). or_else f (length cs)) (own-empty c cs b l)
+    own : unwrap_or (find_empty c cs) (length cs) ≡ c
+    own = ap (λ (f : Found). unwrap_or f (length cs)) (own-empty c cs b l)
 
-    not_found : (n : ℕ) (f : Found) → Where n cs f → ((i : ℕ) → Holds cs i n → ⊥) → or_else f c ≡ c
+    not_found : (n : ℕ) (f : Found) → Where n cs f → ((i : ℕ) → Holds cs i n → ⊥) → unwrap_or f c ≡ c
     not_found n f (away z) h = refl
     not_found n f (there i q) h = absurd (h i q)
 
-    by-entry : (e : Entry) → ((n i : ℕ) → entry_id e ≡ some n → Holds cs i n → ⊥) → or_else (held_by e cs) c ≡ c
+    by-entry : (e : Entry) → ((n i : ℕ) → entry_id e ≡ some n → Holds cs i n → ⊥) → unwrap_or (held_by e cs) c ≡ c
     by-entry (Indirect n) h = not_found n (find n cs) (find_is n cs) (λ i q. h n i refl q)
     by-entry (Direct n) h = not_found n (find n cs) (find_is n cs) (λ i q. h n i refl q)
     by-entry Anonymous h = refl
@@ -110,8 +110,8 @@ module _ (c : ℕ) (cs : List Column) (t : ℕ) where
           by-test (yes q) = eq-eqb k t q ∙ sym (eq-eqb t k (sym q))
           by-test (no q) = ne_eqb k t q ∙ sym (ne_eqb t k (λ z. q (sym z)))
 
-      go : (b : Bool) → is_reached (cond b (At k) Nothing) (λ i. kind_of (draws_at (cond b (At k) Nothing) c (e ∷ []) cs i)) t
-          ≡ is_in t (swapped_to (cond b (At k) Nothing) c (merged_into c (e ∷ []) cs) ++ given_up (cond b (At k) Nothing))
+      go : (b : Bool) → is_reached (cond b (Some k) None) (λ i. kind_of (draws_at (cond b (Some k) None) c (e ∷ []) cs i)) t
+          ≡ is_in t (swapped_to (cond b (Some k) None) c (merged_into c (e ∷ []) cs) ++ given_up (cond b (Some k) None))
       go true = rw (eq-eqb k k refl, turned) (either (eqb t c) (eqb t k))
       go false = reached-straight (e ∷ [])
 
@@ -128,8 +128,8 @@ module _ (c : ℕ) (cs : List Column) (t : ℕ) where
       nobody true h = anonymous-draws e ∙ h
       nobody false h = refl
 
-      go : (x : Bool) → ltb c k ≡ x → is_anonymously_drawn (kind_of (draws_at (cond x (At k) Nothing) c (e ∷ []) cs t))
-          ≡ is_in t (anonymous_in (e ∷ []) (swapped_to (cond x (At k) Nothing) c (merged_into c (e ∷ []) cs)))
+      go : (x : Bool) → ltb c k ≡ x → is_anonymously_drawn (kind_of (draws_at (cond x (Some k) None) c (e ∷ []) cs t))
+          ≡ is_in t (anonymous_in (e ∷ []) (swapped_to (cond x (Some k) None) c (merged_into c (e ∷ []) cs)))
       go true q = let n = named-swaps c e cs b l (ltb-true c k q) in rw (eq-eqb k k refl, n) (nobody (eqb t c) n)
       go false q = anonymous-merged t c (e ∷ []) cs Nobody (λ z. absurd (false≢true z))
 
@@ -148,7 +148,7 @@ terms-count c (e ∷ []) cs b l = go (ltb c k) refl
     k = column_of_parent c e cs
 
     go : (x : Bool) → ltb c k ≡ x
-        → count_of is_set (cells_from (λ i. is_in i (anonymous_in (e ∷ []) (swapped_to (cond x (At k) Nothing) c (merged_into c (e ∷ []) cs)))) 0 (length (enter c e cs))) ≡ count_of is_anonymous (e ∷ [])
+        → count_of is_set (cells_from (λ i. is_in i (anonymous_in (e ∷ []) (swapped_to (cond x (Some k) None) c (merged_into c (e ∷ []) cs)))) 0 (length (enter c e cs))) ≡ count_of is_anonymous (e ∷ [])
     go true q = rw (named-swaps c e cs b l (ltb-true c k q)) (unset 0 (length (enter c e cs)))
     go false q = anonymous-count c (e ∷ []) cs (length (enter c e cs)) (merged-below c (e ∷ []) cs)
 
@@ -160,8 +160,8 @@ known c es cs l = record { below = λ t. below (gave_up c es cs) t; inside = ins
     inside = omega (arith, walk_more c es cs)
 
     below : (f : Found) (t : ℕ) → is_drawn (kind_of (draws_at f c es cs t)) ≡ true → t < length (walk c es cs)
-    below Nothing t h = merged-below c es cs t (sym (met-merged t c es cs Nobody) ∙ h)
-    below (At p) t h = go (eqb t c) refl h
+    below None t h = merged-below c es cs t (sym (met-merged t c es cs Nobody) ∙ h)
+    below (Some p) t h = go (eqb t c) refl h
       where
         go : (x : Bool) → eqb t c ≡ x → is_drawn (kind_of (cond x (met_by p c es cs Nobody) Nobody)) ≡ true → t < length (walk c es cs)
         go true q z = omega (arith, eqb-true t c q, inside)
@@ -186,7 +186,7 @@ settled-waits c (e ∷ []) cs = go (ltb c k)
     k : ℕ
     k = column_of_parent c e cs
 
-    go : (t : Bool) → WaitIn (swapped (cond t (At k) Nothing) c (enter c e cs)) (e ∷ []) (swapped_to (cond t (At k) Nothing) c (k ∷ []))
+    go : (t : Bool) → WaitIn (swapped (cond t (Some k) None) c (enter c e cs)) (e ∷ []) (swapped_to (cond t (Some k) None) c (k ∷ []))
     go false = (enter-holds c e cs, tt)
     go true = (λ x q. ap id_of (at-swap c k (enter c e cs) c ∙ ap (at (enter c e cs)) (flip-left c k)) ∙ enter-holds c e cs x q, tt)
 
@@ -218,7 +218,7 @@ module _ (v : View) (n : ℕ) (es : List Entry) where
   bounds = bounds_of (cells_from (draws_in c es bare) 0 width) c
 
   abbrev solid : Bool
-  solid = is_parent (at bare (or_else (gave_up c es bare) c))
+  solid = is_parent (at bare (unwrap_or (gave_up c es bare) c))
 
   abbrev swap : Swap
   swap = record { given_up = gave_up c es bare; was_direct = solid }

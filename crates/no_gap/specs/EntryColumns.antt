@@ -1,14 +1,14 @@
 -- The column of each of a row's entries, as the definition of the row call places them, and R-9 of one accepted row on any shaper, hand-made ones too.
-use Rattle.std.specs.Prelude.{ℕ, ◌≡◌, Bool, true, false, cond, List, [], ◌∷◌, ◌++◌, map, eqb, get_or}
+use Rattle.std.specs.Prelude.{ℕ, ◌≡◌, Bool, true, false, cond, List, [], ◌∷◌, ◌++◌, map, eqb, get_or, Some, None}
+use Rattle.std.specs.List.{list_any}
 use Rattle.std.proofs.Math.Option.{some}
 use Rattle.column.specs.declared.Column.{Column}
-use Rattle.column.specs.declared.Found.{Found}
-use Rattle.column.specs.declared.Found.TheVariants.{At, Nothing}
+use Rattle.column.specs.Found.{Found}
 use Rattle.render.specs.declared.render.Ancestor.{Ancestor as Entry}
 use Rattle.render.specs.declared.render.LinkLine.{LinkLine}
 use Rattle.render.specs.declared.types.Cell.{Cell}
 use Rattle.render.specs.declared.types.RowShape.{RowShape}
-use Rattle.render.specs.Entries.{entry_id, is_anonymous, any_of}
+use Rattle.render.specs.Entries.{entry_id, is_anonymous}
 use Rattle.render.specs.Link.{no_marks}
 use Rattle.render.specs.Lines.{cells_of}
 use Rattle.placing.specs.Placing.{Placed, column_of_parent, enter}
@@ -24,8 +24,8 @@ merged_into c (e ∷ es) cs = column_of_parent c e cs ∷ merged_into c es (ente
 
 -- the entries' columns, "(the node's after a swap)"
 abbrev pub swapped_to : Found → ℕ → List ℕ → List ℕ
-swapped_to Nothing c ps = ps
-swapped_to (At p) c ps = map (λ (q : ℕ). c) ps
+swapped_to None c ps = ps
+swapped_to (Some p) c ps = map (λ (q : ℕ). c) ps
 
 -- the column of each entry of a row that was placed so, in order
 abbrev pub entry_columns : Placed → List Entry → List ℕ
@@ -39,8 +39,8 @@ anonymous_in (e ∷ es) (p ∷ ps) = cond (is_anonymous e) (p ∷ anonymous_in e
 
 -- "the column given up in a swap", if there is one
 abbrev pub given_up : Found → List ℕ
-given_up Nothing = []
-given_up (At p) = p ∷ []
+given_up None = []
+given_up (Some p) = p ∷ []
 
 -- "its entries' columns, an Anonymous one's and the column given up in a swap included"
 abbrev pub reached_columns : Placed → List Entry → List ℕ
@@ -48,7 +48,7 @@ reached_columns p es = entry_columns p es ++ given_up p.up
 
 -- whether a column is one of a list
 abbrev pub is_in : ℕ → List ℕ → Bool
-is_in t ts = any_of (eqb t) ts
+is_in t ts = list_any (eqb t) ts
 
 -- a column is one of a list
 abbrev pub In : List ℕ → ℕ → Type 0

@@ -1,13 +1,12 @@
 -- Machines that R-9 must rule out: ours, or a wrong one of demand 3, with one thing wrong in what is drawn from the node, or where its column is. Each breaks the clause
 -- named with it. The Rust with the same thing wrong runs in `oracle/no_gap`, for `stray_fork` as `stray_fork`; where one clause is named, no other fails of it there.
-use Rattle.std.specs.Prelude.{ℕ, suc, ◌-◌, max, Bool, true, false, cond, not, ◌&&◌, ◌||◌, List, [], ◌∷◌, ◌++◌, eqb, ltb, length, get_or}
+use Rattle.std.specs.Prelude.{ℕ, suc, ◌-◌, max, Bool, true, false, cond, not, ◌&&◌, ◌||◌, List, [], ◌∷◌, ◌++◌, eqb, ltb, length, get_or, Some, None}
 use Rattle.std.specs.Int.Bits.{bit_and}
-use Rattle.column.specs.declared.Found.{Found}
-use Rattle.column.specs.declared.Found.TheVariants.{At, Nothing}
+use Rattle.std.specs.List.{list_any}
+use Rattle.column.specs.Found.{Found}
 use Rattle.column.specs.Columns.{find}
 use Rattle.render.specs.declared.render.LinkLine.{LinkLine}
 use Rattle.render.specs.declared.types.RowShape.{RowShape}
-use Rattle.render.specs.Entries.{any_of}
 use Rattle.render.specs.Link.{meets, joined, no_marks}
 use Rattle.shaper.specs.Shaper.{View}
 use Rattle.placing.specs.Placing.{place}
@@ -114,15 +113,15 @@ last_of c (t ∷ ts) = max t (last_of c ts)
 -- the marks of cell i, where links lead from column c to each of some columns
 abbrev pub leading : ℕ → List ℕ → ℕ → LinkLine
 leading c ts i =
-    joined (cond (any_of (λ t. (ltb c i && ltb i t) || (ltb t i && ltb i c)) ts) horiz_parent no_marks)
+    joined (cond (list_any (λ t. (ltb c i && ltb i t) || (ltb t i && ltb i c)) ts) horiz_parent no_marks)
     (cond (eqb i c)
-    (joined (cond (any_of (λ t. ltb t c) ts) left_merge_parent no_marks) (cond (any_of (ltb c) ts) right_merge_parent no_marks))
+    (joined (cond (list_any (λ t. ltb t c) ts) left_merge_parent no_marks) (cond (list_any (ltb c) ts) right_merge_parent no_marks))
     (cond (is_in i ts) (cond (ltb c i) left_fork_parent right_fork_parent) no_marks))
 
 -- of a row whose id a column holds the one, of any other the other
 abbrev pub if_held {ℓ} : {A : Type ℓ} → Found → A → A → A
-if_held (At i) one other = one
-if_held Nothing one other = other
+if_held (Some i) one other = one
+if_held None one other = other
 
 -- the columns that a row's entries merge into
 abbrev pub merged : View → Call → List ℕ
@@ -131,7 +130,7 @@ merged v (Row n es) = merged_into (place v n es).column es (place v n es).bare
 
 -- whether a column holds the id of a row
 abbrev pub held_node : View → Call → Found
-held_node v (Reserve n) = Nothing
+held_node v (Reserve n) = None
 held_node v (Row n es) = find n v.columns
 
 -- `arrives`: a node whose id waits stands far to the right of where it waited, and its links are drawn from there
@@ -142,6 +141,6 @@ elsewhere =
           let c : ℕ = far s.0 in
           let ts : List ℕ = merged s.0 k in
           if_held (held_node s.0 k) (cells_from (leading c ts) 0 (suc (last_of c ts))) (marks_from_node (shape_of s.0 k));
-      linked = λ (s : View × View) (k : Call). if_held (held_node s.0 k) (any_of (λ t. not (eqb t (far s.0))) (merged s.0 k)) (is_linked (shape_of s.0 k));
+      linked = λ (s : View × View) (k : Call). if_held (held_node s.0 k) (list_any (λ t. not (eqb t (far s.0))) (merged s.0 k)) (is_linked (shape_of s.0 k));
       terms = λ (s : View × View) (k : Call). term_cells (shape_of s.0 k);
     }

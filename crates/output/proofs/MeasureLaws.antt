@@ -8,11 +8,11 @@ use native.Mathlib.Omega.{arith}
 use lib.Dec.{eqb, ltb, leb}
 use lib.ListN.{length, drop, get_or, replicate, drop_of_length-le}
 use lib.Seq.{drop-cons, drop-drop, get_or-drop}
-use borrow.Author.Tests.{ne_eqb, leb-true, not-true}
+use borrow.Author.Tests.{ne_eqb, leb-true}
 use Rattle.slices.specs.Characters.{blank}
 use Rattle.message.specs.Message.{is_printable, all_of, trim_end}
 use Rattle.message.proofs.MessageLaws.{trim-blanks}
-use Rattle.output.specs.Inner.{among, behind94, behind95}
+use Rattle.output.specs.Inner.{among, behind94, behind95, begins_more}
 use Rattle.output.specs.Measure.{box_characters, shifts, begins, opening, measure_from, measure_of}
 
 -- ---- two tests at once
@@ -79,20 +79,20 @@ passed (suc k) [] = refl
 passed (suc k) (b ∷ l) = passed k l
 
 -- ---- a byte with which no box character and no shift sequence begins is one cell
-abbrev begins_none : ℕ → Bool
-begins_none a = (not (eqb a 0x1b) && not (eqb a 0xe2)) && not (eqb a 0xc2)
+or-left : (a b : Bool) → (a || b) ≡ false → a ≡ false
+or-left true b z = absurd (false≢true (sym z))
+or-left false b z = refl
 
-plain-first : (a : ℕ) (l : List ℕ) → begins_none a ≡ true → measure_from 0 (a ∷ l) ≡ suc (measure_from 0 l)
+or-right : (a b : Bool) → (a || b) ≡ false → b ≡ false
+or-right true b z = absurd (false≢true (sym z))
+or-right false b z = z
+
+plain-first : (a : ℕ) (l : List ℕ) → begins_more a ≡ false → measure_from 0 (a ∷ l) ≡ suc (measure_from 0 l)
 plain-first a l e =
-    let x : Bool = not (eqb a 0x1b) in
-    let y : Bool = not (eqb a 0xe2) in
-    let z : Bool = not (eqb a 0xc2) in
-    let p : eqb a 0x1b ≡ false = not-true (eqb a 0x1b) (left-true x y (left-true (x && y) z e)) in
-    let q : eqb a 0xe2 ≡ false = not-true (eqb a 0xe2) (right-true x y (left-true (x && y) z e)) in
-    let r : eqb a 0xc2 ≡ false = not-true (eqb a 0xc2) (right-true (x && y) z e) in
-    rw (p, q, r) refl
+    let r : (eqb a 0xc2 || eqb a 0xe2) ≡ false = or-right (eqb a 0x1b) (eqb a 0xc2 || eqb a 0xe2) e in
+    rw (or-left (eqb a 0x1b) (eqb a 0xc2 || eqb a 0xe2) e, or-left (eqb a 0xc2) (eqb a 0xe2) r, or-right (eqb a 0xc2) (eqb a 0xe2) r) refl
 
-pub over_plain : (s : List ℕ) (i n : ℕ) → measure_of s ≡ n + measure_from 0 (drop i s) → i < length s → begins_none (get_or s i 0) ≡ true
+pub over_plain : (s : List ℕ) (i n : ℕ) → measure_of s ≡ n + measure_from 0 (drop i s) → i < length s → begins_more (get_or s i 0) ≡ false
     → measure_of s ≡ n + 1 + measure_from 0 (drop (i + 1) s)
 over_plain s i n e h p =
     let z : suc i ≡ i + 1 = omega arith in
@@ -126,10 +126,11 @@ module _ (s : List ℕ) (i n : ℕ) (e : measure_of s ≡ n + measure_from 0 (dr
     pub over-shift : t ≡ true → measure_of s ≡ n + measure_from 0 (drop (i + 3) s)
     over-shift z = e ∙ ap (◌+◌ n) (this ∙ rw z refl)
 
-    pub over-cell : t ≡ false → (k m : ℕ) → k ≡ opening box_characters (a ∷ b ∷ c ∷ []) → m ≡ max k 1 → measure_of s ≡ n + 1 + measure_from 0 (drop (i + m) s)
-    over-cell z k m f g =
+    pub over-cell : t ≡ false → (m : ℕ) → m ≡ max (opening box_characters (a ∷ b ∷ c ∷ [])) 1 → measure_of s ≡ n + 1 + measure_from 0 (drop (i + m) s)
+    over-cell z m f =
+        let k : ℕ = opening box_characters (a ∷ b ∷ c ∷ []) in
         let w : suc (k - 1) ≡ m = omega arith in
-        let r : measure_from 0 (drop i s) ≡ suc (measure_from 0 (drop (i + m) s)) = this ∙ rw (z, ← f, left (k - 1), w) refl in
+        let r : measure_from 0 (drop i s) ≡ suc (measure_from 0 (drop (i + m) s)) = this ∙ rw (z, left (k - 1), w) refl in
         omega (arith, e, r)
 
 pub all-counted : (s : List ℕ) (i n : ℕ) → measure_of s ≡ n + measure_from 0 (drop i s) → length s ≤ i → n ≡ measure_of s
@@ -163,10 +164,10 @@ pub printable-one : (b : ℕ) → is_printable b ≡ true → Spans 1 (b ∷ [])
 unfolding measure_of
 printable-one b e l =
     let (h, k) = printable-within b e in
-    let p : begins_none b ≡ true = rw (
+    let p : begins_more b ≡ false = rw (
       ne_eqb b 0x1b (λ (z : b ≡ 0x1b). omega (arith, h, z)),
-      ne_eqb b 0xe2 (λ (z : b ≡ 0xe2). omega (arith, k, z)),
       ne_eqb b 0xc2 (λ (z : b ≡ 0xc2). omega (arith, k, z)),
+      ne_eqb b 0xe2 (λ (z : b ≡ 0xe2). omega (arith, k, z)),
     ) refl in
     plain-first b l p ∙ omega arith
 
@@ -228,8 +229,8 @@ opening-short (s ∷ ss) l = go (begins s l) refl (opening-short ss l)
     go false e h = h
 
 -- from one to three bytes are a cell
-pub cell-short : (a b c : ℕ) {k m : ℕ} → k ≡ opening box_characters (a ∷ b ∷ c ∷ []) → m ≡ max k 1 → (0 < m) × (m ≤ 3)
-cell-short a b c e f = (omega (arith, f), omega (arith, e, f, opening-short box_characters (a ∷ b ∷ c ∷ [])))
+pub cell-short : (a b c : ℕ) {m : ℕ} → m ≡ max (opening box_characters (a ∷ b ∷ c ∷ [])) 1 → (0 < m) × (m ≤ 3)
+cell-short a b c f = (omega (arith, f), omega (arith, f, opening-short box_characters (a ∷ b ∷ c ∷ [])))
 
 -- a shift sequence has three bytes
 shift-three : (l : List ℕ) → ltb 0 (opening shifts l) ≡ true → ◌≡◌ {A = ℕ} (opening shifts l) 3

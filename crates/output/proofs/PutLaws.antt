@@ -2,13 +2,13 @@
 use mathlib.Core.Path.{◌≡◌, refl, sym, ap, ◌∙◌}
 use mathlib.Core.Bool.{Bool, true, false, cond, ◌&&◌}
 use mathlib.Core.List.{List, [], ◌∷◌, ◌++◌, map, append_assoc, append-nil}
-use Prim.Native.Nat.{ℕ, zero, suc, ◌+◌, ◌-◌, ◌<◌, ◌≤◌, min, max, zero-le}
+use Prim.Native.Nat.{ℕ, zero, suc, ◌+◌, ◌-◌, ◌<◌, ◌≤◌, max, zero-le}
 use native.Mathlib.Nat.{add-zero}
 use native.Mathlib.Omega.{arith}
 use lib.Dec.{eqb, ltb, leb, lit≤}
 use borrow.Author.Tests.{ne_eqb, ltb-true, ltb-false, leb-true, le-leb, lt-leb}
 use lib.ListN.{length, take, drop, set, length-append, length-take}
-use lib.Seq.{take_all, take-append_seam}
+use lib.Seq.{take-append_seam}
 use Rattle.slices.specs.Characters.{newline}
 use Rattle.slices.specs.Joins.{over, Writes}
 use Rattle.slices.proofs.JoinLaws.{joins-append}
@@ -44,20 +44,6 @@ module _ (t : TextState) where
 pub queue_long : (l : List ℕ) → length l ≡ 512 → length l ≡ queue_limit
 queue_long l e = e
 
--- a count past the end takes no more
-take-capped : (k : ℕ) (l : List ℕ) → take (min k (length l)) l ≡ take k l
-take-capped k l = go (ltb k (length l)) refl
-  where
-    go : (b : Bool) → ltb k (length l) ≡ b → take (min k (length l)) l ≡ take k l
-    go true e =
-        let h : k < length l = ltb-true k (length l) e in
-        let m : min k (length l) ≡ k = omega arith in
-        ap (λ (n : ℕ). take n l) m
-    go false e =
-        let h : length l ≤ k = ltb-false k (length l) e in
-        let m : length l ≤ min k (length l) = omega arith in
-        take_all (min k (length l)) l m ∙ sym (take_all k l h)
-
 module _ (t : TextState) (long : length t.queued_pad_line ≡ queue_limit) where
   -- it has at most 513 bytes with its end
   pub queue-short : length (text_of (flushed finish (text_view_of t))) ≤ 513
@@ -68,23 +54,6 @@ module _ (t : TextState) (long : length t.queued_pad_line ≡ queue_limit) where
       go true e =
           let l : List ℕ = take t.queued_length t.queued_pad_line in
           rw (e, append-nil, length-append (trim_end l) (0x0a ∷ [])) (omega (arith, trim-length l, length-take t.queued_length t.queued_pad_line, long))
-
-  module _ (n : ℕ) (e : t.is_queued ≡ true) (f : n ≡ min t.queued_length queue_limit) where
-    -- the line is what the code reads
-    queue-lines : flushed finish (text_view_of t) ≡ finish (take (n - 0) (drop 0 t.queued_pad_line)) ∷ []
-    queue-lines =
-        let z : n - 0 ≡ n = omega arith in
-        let q : take n t.queued_pad_line ≡ take t.queued_length t.queued_pad_line
-        = ap (λ (k : ℕ). take k t.queued_pad_line) (f ∙ ap (min t.queued_length) (sym long)) ∙ take-capped t.queued_length t.queued_pad_line in
-        rw (e, z, q) refl
-
-    pub queue-length : (k : ℕ) → k ≡ length (trim_end (take (n - 0) (drop 0 t.queued_pad_line))) → k + 1 ≡ length (text_of (flushed finish (text_view_of t)))
-    queue-length k h =
-        let l : List ℕ = take (n - 0) (drop 0 t.queued_pad_line) in
-        rw (queue-lines, append-nil, length-append (trim_end l) (0x0a ∷ []), h) refl
-
-    pub queue-written : (d o : List ℕ) (k : ℕ) → Writes (ended (finish (take (n - 0) (drop 0 t.queued_pad_line)))) d o k → Writes (text_of (flushed finish (text_view_of t))) d o k
-    queue-written d o k w = rw (queue-lines, append-nil) w
 
 -- ---- lines that fit, and lines that do not
 module _ (ls : List (List ℕ)) (d o : List ℕ) (r : Put) where
@@ -133,19 +102,15 @@ module _ (bs d : List ℕ) where
       writes-all (ended bs) d (set o (length bs) newline) (length bs + 1) (omega (arith, ended-length)) (sym ended-length)
       (over-one bs d newline (e ∙ copied-over bs d) refl h)
 
--- ---- a line that is written without the blanks at its end
-pub push-done : (s d o : List ℕ) (n k : ℕ) → take n s ≡ trim_end s → Writes (ended (take (n - 0) (drop 0 s))) d o k → Writes (ended (finish s)) d o k
-push-done s d o n k t w = let z : n - 0 ≡ n = omega arith in rw (z, t) at w
-
 -- ---- a line that was written, measured in the output: k bytes are written, and all but the end are looked at
 no-measure : measure_of [] ≡ 0
 unfolding measure_of
 no-measure = refl
 
-module _ (d o : List ℕ) (k i m : ℕ) (e : i ≡ k - 1) (f : m ≡ measure_of (take (i - 0) (drop 0 o))) where
+module _ (d o : List ℕ) (k i m : ℕ) (e : i ≡ k - 1) (f : m ≡ measure_of (take i o)) where
   nothing-looked-at : k ≡ 0 → m ≡ 0
   nothing-looked-at z =
-      let n : i - 0 ≡ 0 = omega arith in
+      let n : i ≡ 0 = omega arith in
       f ∙ ap (λ (j : ℕ). measure_of (take j o)) n ∙ no-measure
 
   none-measured : Writes (text_of []) d o k → Puts [] d o (record { length = k; measure = m })
@@ -168,7 +133,7 @@ module _ (d o : List ℕ) (k i m : ℕ) (e : i ≡ k - 1) (f : m ≡ measure_of 
       go false q =
           let h : length (text_of (l ∷ [])) ≤ length d = ltb-false (length d) (length (text_of (l ∷ []))) q in
           let c : k ≡ length (text_of (l ∷ [])) = wrote_count (text_of (l ∷ [])) d o k w h in
-          let n : i - 0 ≡ length l = omega (arith, c, long) in
+          let n : i ≡ length l = omega (arith, c, long) in
           let there : o ≡ l ++ (newline ∷ drop (length (ended l)) d)
           = wrote (text_of (l ∷ [])) d o k w h ∙ ap (λ (x : List ℕ). over x d) (append-nil (ended l)) ∙ append_assoc l (newline ∷ []) (drop (length (ended l)) d) in
           let front : take (length l) o ≡ l = rw there (take-append_seam l (newline ∷ drop (length (ended l)) d)) in

@@ -1,7 +1,7 @@
 -- Laws of the end of a row: the slots as they are after it, and those trimmed.
 use Prim.Native.Nat.{ℕ, zero, suc, ◌+◌, ◌≤◌, ◌<◌, min}
 use mathlib.Core.Path.{◌≡◌, refl, ap, ap₂, sym, ◌∙◌}
-use mathlib.Core.Bool.{Bool, true, false, cond, false≢true}
+use mathlib.Core.Bool.{Bool, true, false, cond}
 use mathlib.Core.List.{List, [], ◌∷◌, map}
 use native.Mathlib.Nat.{not-suc-le-zero, le_of_suc-le-suc}
 use native.Mathlib.Omega.{arith}
@@ -12,12 +12,12 @@ use borrow.Author.Tests.{ltb-true, ltb-false}
 use Rattle.column.specs.declared.Column.{Column}
 use Rattle.column.specs.declared.Column.TheVariants.{Empty, Blocked, Reserved, Ancestor, Parent}
 use Rattle.column.specs.declared.Slot.{Slot}
-use Rattle.column.specs.Columns.{column_limit, direct, unblock, reset, trim, at, live, empty_slot, slot_of, carried, counted, is_named, origins, origin_at, SpareEmpty}
+use Rattle.column.specs.Columns.{column_limit, direct, unblock, reset, trim, at, live, empty_slot, carried, counted, is_named, origins, origin_at, SpareEmpty}
 use Rattle.slices.proofs.Front.{length_front, front-clamp}
 use Rattle.column.proofs.Laws.{column_of, trim-at, live_at, origins-at, origins-past, counted-twice}
 use Rattle.column.proofs.Positions.{past_end}
 use Rattle.column.proofs.Laws.{Filled, filled-start, filled_next}
-use Rattle.column.specs.declared.Found.TheVariants.{At}
+use Rattle.std.specs.Prelude.{Some}
 use Rattle.render.specs.declared.types.Options.{Options}
 use Rattle.render.specs.declared.types.DashStyle.{DashStyle}
 use Rattle.render.specs.declared.types.DashStyle.TheVariants.{Persistent, Once}
@@ -34,45 +34,8 @@ pub record Ends (slots : List Slot) (count column : ℕ) (o : Options) (r : Shap
   pub carried : (i : ℕ) → origin_at (origins r.count r.slots) i ≡ origin_at (origins count slots) i
   pub fits : r.count ≤ column_limit
   pub rest : SpareEmpty r.count r.slots
-  pub previous : r.previous_node_column ≡ At column
+  pub previous : r.previous_node_column ≡ Some column
   pub options : r.options ≡ o
-
--- ---- the slot of a column after a row: one that is not named, and one that is, by the dash style
-pub ended-unnamed : (d : DashStyle) (s : Slot) → is_named s.column ≡ false → ◌≡◌ {A = Slot} (record { column = unblock s.column; origin = 0 }) (ended_slot d s)
-ended-unnamed d s = go d s.column
-  where
-    go : (d : DashStyle) (c : Column) → is_named c ≡ false → ◌≡◌ {A = Slot} (record { column = unblock c; origin = 0 }) (slot_of (ended_column d c) s.origin)
-    go Persistent Empty h = refl
-    go Persistent Blocked h = refl
-    go Persistent (Reserved n) h = refl
-    go Persistent (Ancestor n) h = absurd (false≢true (sym h))
-    go Persistent (Parent n) h = absurd (false≢true (sym h))
-    go Once Empty h = refl
-    go Once Blocked h = refl
-    go Once (Reserved n) h = refl
-    go Once (Ancestor n) h = absurd (false≢true (sym h))
-    go Once (Parent n) h = absurd (false≢true (sym h))
-
-module _ (s : Slot) (h : is_named s.column ≡ true) where
-  pub ended-persistent : s ≡ ended_slot Persistent s
-  ended-persistent = go s.column h
-    where
-      go : (c : Column) → is_named c ≡ true → ◌≡◌ {A = Slot} (record { column = c; origin = s.origin }) (slot_of (unblock c) s.origin)
-      go Empty h = absurd (false≢true h)
-      go Blocked h = absurd (false≢true h)
-      go (Reserved n) h = absurd (false≢true h)
-      go (Ancestor n) h = refl
-      go (Parent n) h = refl
-
-  pub ended-once : ◌≡◌ {A = Slot} (record { column = direct s.column; origin = s.origin }) (ended_slot Once s)
-  ended-once = go s.column h
-    where
-      go : (c : Column) → is_named c ≡ true → ◌≡◌ {A = Slot} (record { column = direct c; origin = s.origin }) (slot_of (unblock (direct c)) s.origin)
-      go Empty h = absurd (false≢true h)
-      go Blocked h = absurd (false≢true h)
-      go (Reserved n) h = absurd (false≢true h)
-      go (Ancestor n) h = refl
-      go (Parent n) h = refl
 
 -- ---- the slots of a row's end
 turned-at : (d : DashStyle) (l : List Slot) (i : ℕ) → i < length l → get_or (map (ended_slot d) l) i empty_slot ≡ ended_slot d (get_or l i empty_slot)
@@ -188,7 +151,7 @@ module _ (d : DashStyle) (given l : List Slot) (count n : ℕ) (long : length gi
           origins-past m l i (omega arith) ∙ sym (origins-past n l i (omega arith)) ∙ all
 
   -- the shaper, where m columns are left
-  ended-done : (x : Shaper) (m column : ℕ) (o : Options) → x.slots ≡ l → x.count ≡ m → x.previous_node_column ≡ At column → x.options ≡ o
+  ended-done : (x : Shaper) (m column : ℕ) (o : Options) → x.slots ≡ l → x.count ≡ m → x.previous_node_column ≡ Some column → x.options ≡ o
       → o.graph_row_shape_style.dash_style ≡ d → m ≤ n → live m l ≡ trim (live n l) → Ends given count column o x
   ended-done x m column o s z p r k h q =
       record {
@@ -226,5 +189,5 @@ module _ (d : DashStyle) (given : List Slot) (count : ℕ) where
 
   -- all are filled, and m columns are left
   pub filling-done : (at : ℕ) (l : List Slot) (x : Shaper) (m column : ℕ) (o : Options) → Filling d given count at l → count ≤ at → x.slots ≡ l → x.count ≡ m
-      → x.previous_node_column ≡ At column → x.options ≡ o → o.graph_row_shape_style.dash_style ≡ d → m ≤ at → live m l ≡ trim (live at l) → Ends given count column o x
+      → x.previous_node_column ≡ Some column → x.options ≡ o → o.graph_row_shape_style.dash_style ≡ d → m ≤ at → live m l ≡ trim (live at l) → Ends given count column o x
   filling-done at l x m column o f h = ended-done d given l count at f.long (omega (arith, h, f.upto, f.fits)) f.filled x m column o

@@ -12,26 +12,26 @@ use lib.Seq.{drop-cons, take-set-le, get_or-set_same, get_or-set_other}
 use borrow.Author.Tests.{ltb-true, ltb-false, eqb-true, eqb-false}
 use Rattle.column.specs.declared.Column.{Column}
 use Rattle.column.specs.declared.Column.TheVariants.{Empty, Blocked, Reserved, Ancestor, Parent}
-use Rattle.column.specs.declared.Found.{Found}
-use Rattle.column.specs.declared.Found.TheVariants.{At, Nothing}
+use Rattle.std.specs.Prelude.{Some, None, unwrap_or}
+use Rattle.std.specs.List.{position, list_any}
 use Rattle.column.specs.declared.Slot.{Slot}
-use Rattle.column.specs.Columns.{column_limit, is_empty, is_named, first, find_empty, or_else, merge, at, put, live, origins, origin_at, empty_slot}
+use Rattle.column.specs.Found.{Found}
+use Rattle.column.specs.Columns.{column_limit, is_empty, is_named, first, find_empty, merge, at, put, live, origins, origin_at, empty_slot}
 use Rattle.slices.proofs.Front.{length_front, front-get_or, front-set}
-use Rattle.column.proofs.Laws.{column_of as slot_column, first_below, live_at, origins-at, live-put, put-set}
+use Rattle.column.proofs.Laws.{column_of as slot_column, first-live, first_below, live_at, origins-at, live-put, put-set}
 use Rattle.column.proofs.Positions.{at-put-same, at-put-other, length-put, put-skip, at-live, past_end}
 use Rattle.render.specs.declared.render.Ancestor.{Ancestor as Entry}
 use Rattle.render.specs.declared.render.Entry.{Entry as Entry₁}
 use Rattle.render.specs.declared.render.Ancestor.TheVariants.{Ancestor as Indirect, Parent as Direct, Anonymous}
-use Rattle.render.specs.Entries.{is_anonymous, any_of}
+use Rattle.render.specs.Entries.{is_anonymous}
 use Rattle.links.specs.declared.Drawn.{Drawn}
 use Rattle.links.specs.declared.Drawn.TheVariants as drawn
-use Rattle.links.specs.declared.ParentColumn.{ParentColumn}
 use Rattle.links.specs.Links.{drawn_by}
-use Rattle.links.specs.Inner.{nobody, parent_of, kind_at}
+use Rattle.links.specs.Inner.{kind_at}
 use Rattle.placing.specs.Placing.{column_of, held_by, column_of_parent, enter, walk, Met, Nobody, By, kind_of, met_by, line_origin}
 use Rattle.placing.specs.Inner.{holds_entry, entered, column_before}
 
-none-held : (cs : List Column) → first (holds_entry Anonymous) cs ≡ Nothing
+none-held : (cs : List Column) → first (holds_entry Anonymous) cs ≡ None
 none-held [] = refl
 none-held (c ∷ cs) = rw (none-held cs)
 
@@ -41,18 +41,23 @@ held_first (Indirect n) cs = refl
 held_first (Direct n) cs = refl
 held_first Anonymous cs = sym (none-held cs)
 
+-- and so the library's first position of the live slots
+pub held-live : (m n : ℕ) (l : List Slot) (e : Entry) → m ≡ min n column_limit → length l ≡ column_limit → position (λ (s : Slot). holds_entry e s.column) (take m l) ≡ held_by e (live n l)
+held-live m n l e h k = first-live (holds_entry e) m n l h k ∙ sym (held_first e (live n l))
+
 -- ---- the column of an entry
 module _ (c : ℕ) (e : Entry) (cs : List Column) where
-  pub parent-column-held : (i : ℕ) → held_by e cs ≡ At i → i ≡ column_of_parent c e cs
+  pub parent-column-held : (i : ℕ) → held_by e cs ≡ Some i → i ≡ column_of_parent c e cs
   parent-column-held i h = rw h
 
-  pub parent-column-free : (i : ℕ) → held_by e cs ≡ Nothing → find_empty c cs ≡ At i → i ≡ column_of_parent c e cs
+  pub parent-column-free : (i : ℕ) → held_by e cs ≡ None → find_empty c cs ≡ Some i → i ≡ column_of_parent c e cs
   parent-column-free i h f = rw (h, f)
 
-  pub parent-column-last : (i : ℕ) → held_by e cs ≡ Nothing → find_empty c cs ≡ Nothing → i ≡ length cs → i ≡ column_of_parent c e cs
-  parent-column-last i h f k = rw (h, f) k
+  -- where the node's own column is not Empty, the first Empty one is what is found, else a new last one
+  pub parent-column-else : (i : ℕ) (f : Found) → held_by e cs ≡ None → find_empty c cs ≡ f → i ≡ unwrap_or f (length cs) → i ≡ column_of_parent c e cs
+  parent-column-else i f h g k = rw (h, g) k
 
-  held-within : (e : Entry) (i : ℕ) → held_by e cs ≡ At i → i < length cs
+  held-within : (e : Entry) (i : ℕ) → held_by e cs ≡ Some i → i < length cs
   held-within (Indirect n) i h = first_below _ cs i h
   held-within (Direct n) i h = first_below _ cs i h
   held-within Anonymous i h = let z : ◌≡◌ {A = ℕ} 0 1 = cc in absurd (omega arith)
@@ -68,18 +73,18 @@ module _ (c : ℕ) (e : Entry) (cs : List Column) where
           let z : ◌≡◌ {A = ℕ} 0 1 = cc in
           absurd (omega arith)
 
-  free-within : (b : Bool) → is_empty (get_or cs c Blocked) ≡ b → (f : Found) → first is_empty cs ≡ f → or_else (cond b (At c) f) (length cs) ≤ length cs
+  free-within : (b : Bool) → is_empty (get_or cs c Blocked) ≡ b → (f : Found) → first is_empty cs ≡ f → unwrap_or (cond b (Some c) f) (length cs) ≤ length cs
   free-within true q f g = let h : c < length cs = known c q in omega arith
-  free-within false q (At i) g = omega (arith, first_below is_empty cs i g)
-  free-within false q Nothing g = omega arith
+  free-within false q (Some i) g = omega (arith, first_below is_empty cs i g)
+  free-within false q None g = omega arith
 
   -- an entry's column is one there is, or a new last one
   pub parent-column-within : column_of_parent c e cs ≤ length cs
   parent-column-within = go (held_by e cs) refl
     where
-      go : (f : Found) → held_by e cs ≡ f → or_else f (or_else (find_empty c cs) (length cs)) ≤ length cs
-      go (At i) h = omega (arith, held-within e i h)
-      go Nothing h = free-within (is_empty (get_or cs c Blocked)) refl (first is_empty cs) refl
+      go : (f : Found) → held_by e cs ≡ f → unwrap_or f (unwrap_or (find_empty c cs) (length cs)) ≤ length cs
+      go (Some i) h = omega (arith, held-within e i h)
+      go None h = free-within (is_empty (get_or cs c Blocked)) refl (first is_empty cs) refl
 
 -- ---- a walk never takes a column away
 pub walk_more : (c : ℕ) (es : List Entry) (cs : List Column) → length cs ≤ length (walk c es cs)
@@ -221,21 +226,21 @@ kind-met i c (e ∷ es) cs m =
     ∙ kind-met i c es (enter c e cs) (cond (eqb i (column_of_parent c e cs)) (By e) m)
 
 -- who draws once an entry drew in column i
-kind-set : (l : List ParentColumn) (i j : ℕ) (e : Entry) → i < length l → kind_at (set l i (parent_of e)) j ≡ cond (eqb j i) (drawn_by e) (kind_at l j)
+kind-set : (l : List Drawn) (i j : ℕ) (e : Entry) → i < length l → kind_at (set l i (drawn_by e)) j ≡ cond (eqb j i) (drawn_by e) (kind_at l j)
 kind-set l i j e h = go (eqb j i) refl
   where
-    go : (b : Bool) → eqb j i ≡ b → kind_at (set l i (parent_of e)) j ≡ cond b (drawn_by e) (kind_at l j)
-    go true q = ap (λ (p : ParentColumn). p.drawn) (rw (eqb-true j i q) (get_or-set_same l i (parent_of e) nobody h))
-    go false q = ap (λ (p : ParentColumn). p.drawn) (get_or-set_other l i j (parent_of e) nobody (eqb-false j i q))
+    go : (b : Bool) → eqb j i ≡ b → kind_at (set l i (drawn_by e)) j ≡ cond b (drawn_by e) (kind_at l j)
+    go true q = rw (eqb-true j i q) (get_or-set_same l i (drawn_by e) drawn.Nobody h)
+    go false q = get_or-set_other l i j (drawn_by e) drawn.Nobody (eqb-false j i q)
 
 -- nobody draws at first
-kind-none : (j : ℕ) → kind_at (replicate column_limit nobody) j ≡ drawn.Nobody
+kind-none : (j : ℕ) → kind_at (replicate column_limit drawn.Nobody) j ≡ drawn.Nobody
 kind-none j = go (ltb j column_limit) refl
   where
-    go : (b : Bool) → ltb j column_limit ≡ b → kind_at (replicate column_limit nobody) j ≡ drawn.Nobody
-    go true q = rw (get_or-replicate column_limit j nobody nobody (ltb-true _ _ q))
+    go : (b : Bool) → ltb j column_limit ≡ b → kind_at (replicate column_limit drawn.Nobody) j ≡ drawn.Nobody
+    go true q = rw (get_or-replicate column_limit j drawn.Nobody drawn.Nobody (ltb-true _ _ q))
     go false q =
-        rw (get_or-eq_default (replicate column_limit nobody) nobody {n = j} (rw (length-replicate column_limit nobody) (ltb-false _ _ q)))
+        rw (get_or-eq_default (replicate column_limit drawn.Nobody) drawn.Nobody {n = j} (rw (length-replicate column_limit drawn.Nobody) (ltb-false _ _ q)))
 
 or_assoc : (x y z : Bool) → ((x || y) || z) ≡ (x || (y || z))
 or_assoc true y z = refl
@@ -246,7 +251,7 @@ or-none true = refl
 or-none false = refl
 
 -- what the walk keeps once i entries are in: bs are the columns before them, and the rest is what is left to do from there
-pub record Going (bs : List Column) (c : ℕ) (es : List Entry) (i : ℕ) (slots : List Slot) (count : ℕ) (parents : List ParentColumn) (last : ℕ) (said : Bool) : Type 0 where
+pub record Going (bs : List Column) (c : ℕ) (es : List Entry) (i : ℕ) (slots : List Slot) (count : ℕ) (parents : List Drawn) (last : ℕ) (said : Bool) : Type 0 where
   pub long : length slots ≡ column_limit
   pub wide : length parents ≡ column_limit
   pub fits : count ≤ column_limit
@@ -254,10 +259,10 @@ pub record Going (bs : List Column) (c : ℕ) (es : List Entry) (i : ℕ) (slots
   pub columns : walk c (drop i es) (live count slots) ≡ walk c es bs
   pub kinds : (j : ℕ) → kind_by j c (drop i es) (live count slots) (kind_at parents j) ≡ kind_by j c es bs drawn.Nobody
   pub last-left : last_column c (drop i es) (live count slots) last ≡ last_column c es bs 0
-  pub said-left : (said || any_of is_anonymous (drop i es)) ≡ any_of is_anonymous es
+  pub said-left : (said || list_any is_anonymous (drop i es)) ≡ list_any is_anonymous es
 
 -- what it gives
-pub record Gone (bs : List Column) (c : ℕ) (es : List Entry) (slots : List Slot) (count : ℕ) (parents : List ParentColumn) (last : ℕ) (said : Bool) : Type 0 where
+pub record Gone (bs : List Column) (c : ℕ) (es : List Entry) (slots : List Slot) (count : ℕ) (parents : List Drawn) (last : ℕ) (said : Bool) : Type 0 where
   pub long : length slots ≡ column_limit
   pub wide : length parents ≡ column_limit
   pub fits : count ≤ column_limit
@@ -265,7 +270,7 @@ pub record Gone (bs : List Column) (c : ℕ) (es : List Entry) (slots : List Slo
   pub columns : live count slots ≡ walk c es bs
   pub kinds : (j : ℕ) → kind_at parents j ≡ kind_of (met_by j c es bs Nobody)
   pub last-is : last ≡ last_column c es bs 0
-  pub said-is : said ≡ any_of is_anonymous es
+  pub said-is : said ≡ list_any is_anonymous es
 
 -- merging leaves a named column named
 pub merge-stays : (c d : Column) → is_named c ≡ true → is_named (merge c d) ≡ true
@@ -284,12 +289,12 @@ merge-stays (Parent n) (Ancestor m) h = refl
 merge-stays (Parent n) (Parent m) h = refl
 
 module _ (bs : List Column) (c : ℕ) (es : List Entry) where
-  pub going_start : (slots : List Slot) (count : ℕ) (parents : List ParentColumn) → length slots ≡ column_limit → count ≤ column_limit → live count slots ≡ bs
-      → parents ≡ replicate column_limit nobody → Going bs c es 0 slots count parents 0 false
+  pub going_start : (slots : List Slot) (count : ℕ) (parents : List Drawn) → length slots ≡ column_limit → count ≤ column_limit → live count slots ≡ bs
+      → parents ≡ replicate column_limit drawn.Nobody → Going bs c es 0 slots count parents 0 false
   going_start slots count parents long h b p =
       record {
         long = long;
-        wide = rw p (length-replicate column_limit nobody);
+        wide = rw p (length-replicate column_limit drawn.Nobody);
         fits = h;
         within = omega arith;
         columns = rw b;
@@ -298,7 +303,7 @@ module _ (bs : List Column) (c : ℕ) (es : List Entry) where
         said-left = refl;
       }
 
-  module _ (i : ℕ) (slots : List Slot) (count : ℕ) (parents : List ParentColumn) (last : ℕ) (said : Bool) (g : Going bs c es i slots count parents last said) where
+  module _ (i : ℕ) (slots : List Slot) (count : ℕ) (parents : List Drawn) (last : ℕ) (said : Bool) (g : Going bs c es i slots count parents last said) where
     module _ (e : Entry) (d : drop i es ≡ e ∷ drop (suc i) es) (index : ℕ) (k : index ≡ column_of_parent c e (live count slots)) where
       abbrev now : List Column
       now = live count slots
@@ -313,7 +318,7 @@ module _ (bs : List Column) (c : ℕ) (es : List Entry) where
           rw (← w) (omega (arith, walk_more c (drop (suc i) es) (enter c e now), length-put now (column_of_parent c e now) (merge (at now (column_of_parent c e now)) (column_of e))))
 
       module _ (h : index < column_limit) (m : ℕ) (q : m ≡ min (max count (index + 1)) column_limit) (s : Slot)
-          (x : ℕ) (f : s ≡ entered (get_or slots index empty_slot) index count e x) (p : ParentColumn) (o : p ≡ parent_of e) (t : Bool) (y : t ≡ is_anonymous e) where
+          (x : ℕ) (f : s ≡ entered (get_or slots index empty_slot) index count e x) (p : Drawn) (o : p ≡ drawn_by e) (t : Bool) (y : t ≡ is_anonymous e) where
         a : index < length slots
         a = rw g.long h
 
@@ -337,8 +342,8 @@ module _ (bs : List Column) (c : ℕ) (es : List Entry) where
               last-left = rw (add-one i, next, k) (ap (λ (l : List Entry). last_column c l now last) (sym d) ∙ g.last-left);
               said-left =
                   rw (add-one i, y)
-                  (or_assoc said (is_anonymous e) (any_of is_anonymous (drop (suc i) es))
-                  ∙ ap (λ (l : List Entry). said || any_of is_anonymous l) (sym d)
+                  (or_assoc said (is_anonymous e) (list_any is_anonymous (drop (suc i) es))
+                  ∙ ap (λ (l : List Entry). said || list_any is_anonymous l) (sym d)
                   ∙ g.said-left);
             }
 
@@ -391,7 +396,7 @@ module _ (bs : List Column) (c : ℕ) (es : List Entry) where
           columns = ap (λ (t : List Entry). walk c t (live count slots)) (sym d) ∙ g.columns;
           kinds = λ j. ap (λ (t : List Entry). kind_by j c t (live count slots) (kind_at parents j)) (sym d) ∙ g.kinds j ∙ kind-met j c es bs Nobody;
           last-is = ap (λ (t : List Entry). last_column c t (live count slots) last) (sym d) ∙ g.last-left;
-          said-is = sym (or-none said) ∙ ap (λ (t : List Entry). said || any_of is_anonymous t) (sym d) ∙ g.said-left;
+          said-is = sym (or-none said) ∙ ap (λ (t : List Entry). said || list_any is_anonymous t) (sym d) ∙ g.said-left;
         }
 
 -- ---- the entries of an array

@@ -1,10 +1,9 @@
 -- How a row finds its columns (01, the section of that name; `next_row_shape` in graph_to_row_shape.rs).
-use Rattle.std.specs.Prelude.{ℕ, cond, List, [], ◌∷◌, map, ltb, eqb, length}
+use Rattle.std.specs.Prelude.{ℕ, cond, List, [], ◌∷◌, map, ltb, eqb, length, Some, None, unwrap_or}
 use Rattle.column.specs.declared.Column.{Column}
 use Rattle.column.specs.declared.Column.TheVariants.{Empty, Blocked, Ancestor, Parent}
-use Rattle.column.specs.declared.Found.{Found}
-use Rattle.column.specs.declared.Found.TheVariants.{At, Nothing}
-use Rattle.column.specs.Columns.{is_named, find, find_empty, or_else, merge, direct, at, put, counted, origin_at}
+use Rattle.column.specs.Found.{Found}
+use Rattle.column.specs.Columns.{is_named, find, find_empty, merge, direct, at, put, counted, origin_at}
 use Rattle.render.specs.declared.render.Ancestor.{Ancestor as Entry}
 use Rattle.render.specs.declared.render.Ancestor.TheVariants.{Ancestor as Indirect, Parent as Direct, Anonymous}
 use Rattle.render.specs.declared.types.DashStyle.{DashStyle}
@@ -27,11 +26,11 @@ column_of Anonymous = Blocked
 abbrev pub held_by : Entry → List Column → Found
 held_by (Indirect n) cs = find n cs
 held_by (Direct n) cs = find n cs
-held_by Anonymous cs = Nothing
+held_by Anonymous cs = None
 
 -- "a held id merges into its column; any other entry merges into `find_empty` of the node's column, else takes a new last column"
 abbrev pub column_of_parent : ℕ → Entry → List Column → ℕ
-column_of_parent c e cs = or_else (held_by e cs) (or_else (find_empty c cs) (length cs))
+column_of_parent c e cs = unwrap_or (held_by e cs) (unwrap_or (find_empty c cs) (length cs))
 
 -- the columns after an entry "merges into its column", its id's or another
 abbrev pub enter : ℕ → Entry → List Column → List Column
@@ -48,14 +47,14 @@ swap i j cs = put (put cs i (at cs j)) j (at cs i)
 
 -- the column that a single entry gives up: "A single entry whose column lies right of the node swaps columns with it."
 abbrev pub gave_up : ℕ → List Entry → List Column → Found
-gave_up c [] cs = Nothing
-gave_up c (e ∷ []) cs = cond (ltb c (column_of_parent c e cs)) (At (column_of_parent c e cs)) Nothing
-gave_up c (e ∷ f ∷ es) cs = Nothing
+gave_up c [] cs = None
+gave_up c (e ∷ []) cs = cond (ltb c (column_of_parent c e cs)) (Some (column_of_parent c e cs)) None
+gave_up c (e ∷ f ∷ es) cs = None
 
 -- the columns after the swap: "swaps columns with it"
 abbrev pub swapped : Found → ℕ → List Column → List Column
-swapped Nothing c cs = cs
-swapped (At p) c cs = swap c p cs
+swapped None c cs = cs
+swapped (Some p) c cs = swap c p cs
 
 -- ---- a row's columns
 
@@ -101,15 +100,15 @@ met_by i c (e ∷ es) cs m = met_by i c es (enter c e cs) (cond (eqb i (column_o
 
 -- who draws in column i: after a swap the entry that met the column given up draws in the node's (`next_row_shape`)
 abbrev pub draws_at : Found → ℕ → List Entry → List Column → ℕ → Met
-draws_at Nothing c es cs i = met_by i c es cs Nobody
-draws_at (At p) c es cs i = cond (eqb i c) (met_by p c es cs Nobody) Nobody
+draws_at None c es cs i = met_by i c es cs Nobody
+draws_at (Some p) c es cs i = cond (eqb i c) (met_by p c es cs Nobody) Nobody
 
 -- ---- who started a line (02, R-3)
 
 -- the column that the line in column i comes from, where the node's is c: "The id's move to another column carries it along." (02, R-3)
 abbrev pub source : Found → ℕ → ℕ → ℕ
-source Nothing c i = i
-source (At p) c i = cond (eqb i c) p i
+source None c i = i
+source (Some p) c i = cond (eqb i c) p i
 
 -- the node "in whose accepted row its id was first named" (02, R-3), for a line that comes from column j of the columns cs before the
 -- entries of a row of n: what the column carried, if it was Ancestor or Parent, else n

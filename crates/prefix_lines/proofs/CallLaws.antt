@@ -8,12 +8,14 @@ use native.Mathlib.Omega.{arith}
 use lib.Dec.{leb}
 use lib.ListN.{length, length-append, length-map, length-take}
 use borrow.Author.Tests.{lt-ltb, le-ltb, leb-true, leb-false}
+use Rattle.std.specs.Prelude.{Ok, Err}
 use Rattle.column.specs.Columns.{column_limit}
 use Rattle.render.specs.declared.types.DashStyle.{DashStyle}
 use Rattle.render.specs.declared.types.RowShape.{RowShape}
 use Rattle.render.specs.Lines.{cells_of}
 use Rattle.render.specs.Mark.{is_mark}
-use Rattle.render.specs.Refusals.{mark_outside_span, output_shorter_than_lines, shape_too_wide, refusal}
+use Rattle.render.specs.declared.refusals.Refusal.TheVariants.{MarkOutsideSpan, OutputShorterThanLines, ShapeTooWide}
+use Rattle.render.specs.Refusals.{refusal}
 use Rattle.glyphs.specs.declared.Renderer.{Renderer}
 use Rattle.glyphs.specs.declared.Renderer.TheVariants.{Ascii}
 use Rattle.glyphs.specs.declared.types.Choice.{Choice}
@@ -28,7 +30,6 @@ use Rattle.glyphs.proofs.PlaceLaws.{length-places}
 use Rattle.glyphs.proofs.TableLaws.{table-line}
 use Rattle.slices.specs.Joins.{joins, over}
 use Rattle.slices.proofs.JoinLaws.{joins-short}
-use Rattle.prefix_lines.specs.declared.Written.{Written}
 use Rattle.prefix_lines.specs.declared.writer.Frame.{Frame}
 use Rattle.prefix_lines.specs.declared.writer.Frame.TheVariants.{Plain, Listed}
 use Rattle.prefix_lines.specs.Inner.{frame_length, framed, drawn_line, drawn_lines, room_refusal, framed_line, framed_bytes, framed_answer}
@@ -80,25 +81,25 @@ listed_answer g mark out e = rw (listed-bytes g mark) at e
 
 -- ---- the answers where only the room is in question
 module _ (bs out : List ℕ) where
-  pub room-refused : (w : Written) {room : Bool} → room ≡ leb (length bs) (length out) → room ≡ false → (w.refusal ≡ output_shorter_than_lines) × (w.length ≡ 0)
-      → answer_of w out ≡ answered (room_refusal bs out) bs out
-  room-refused w e b h = rw (lt-ltb (length out) (length bs) (leb-false (length bs) (length out) (sym e ∙ b)), h.0, h.1)
+  pub room-refused : {room : Bool} → room ≡ leb (length bs) (length out) → room ≡ false
+      → answer_of (Err OutputShorterThanLines) out ≡ answered (room_refusal bs out) bs out
+  room-refused e b = rw (lt-ltb (length out) (length bs) (leb-false (length bs) (length out) (sym e ∙ b)))
 
   pub room-given : {room : Bool} → room ≡ leb (length bs) (length out) → room ≡ true → length bs ≤ length out
   room-given e b = leb-true (length bs) (length out) (sym e ∙ b)
 
   pub room-taken : {n : ℕ} {o : List ℕ} → length bs ≤ length out → (n ≡ length bs) × (o ≡ over bs out)
-      → answer_of (record { refusal = 0; length = n }) o ≡ answered (room_refusal bs out) bs out
+      → answer_of (Ok n) o ≡ answered (room_refusal bs out) bs out
   room-taken h e = rw (le-ltb (length out) (length bs) h, e.0, e.1)
 
 -- ---- the answers
 module _ (f : Frame) (g : RowShape) (q : Renderer) (mark : ℕ) (out : List ℕ) where
-  pub mark-refused : (w : Written) → is_mark mark ≡ false → (w.refusal ≡ mark_outside_span) × (w.length ≡ 0) → answer_of w out ≡ framed_answer f g q mark out
-  mark-refused w b h = rw (b, h.0, h.1)
+  pub mark-refused : is_mark mark ≡ false → answer_of (Err MarkOutsideSpan) out ≡ framed_answer f g q mark out
+  mark-refused b = rw b
 
   module _ (b : is_mark mark ≡ true) where
-    pub width-refused : (w : Written) → column_limit < g.width → (w.refusal ≡ shape_too_wide) × (w.length ≡ 0) → answer_of w out ≡ framed_answer f g q mark out
-    width-refused w k h = rw (b, lt-ltb column_limit g.width k, h.0, h.1)
+    pub width-refused : column_limit < g.width → answer_of (Err ShapeTooWide) out ≡ framed_answer f g q mark out
+    width-refused k = rw (b, lt-ltb column_limit g.width k)
 
     -- once the mark and the width are good: the lines drawn from the table are the definition's
     pub drawn-answer : g.width ≤ column_limit → (t : List ℕ) (d : Drawing) → d ≡ drawing_of g q mark → Tables t (glyphs_of q) q mark → {x : Answer}

@@ -1,17 +1,17 @@
 -- The renderer call (01, "Added by us" and "Where a call turns back"): the bytes of its lines, and the answer.
-use Rattle.std.specs.Prelude.{ℕ, zero, suc, not, List, [], ◌∷◌, ◌++◌, ltb, length}
+use Rattle.std.specs.Prelude.{ℕ, zero, suc, not, List, [], ◌∷◌, ◌++◌, ltb, length, Result, Ok, Err}
 use Rattle.column.specs.Columns.{column_limit}
 use Rattle.render.specs.declared.types.DashStyle.{DashStyle}
 use Rattle.render.specs.declared.types.RowShape.{RowShape}
 use Rattle.render.specs.Mark.{is_mark}
-use Rattle.render.specs.Refusals.{mark_outside_span, output_shorter_than_lines, shape_too_wide, Check, ◌when◌, refusal}
+use Rattle.render.specs.declared.refusals.Refusal.{Refusal}
+use Rattle.render.specs.Refusals.{not_refused, mark_outside_span, output_shorter_than_lines, shape_too_wide, Check, ◌when◌, refusal, number}
 use Rattle.glyphs.specs.declared.Renderer.{Renderer}
 use Rattle.glyphs.specs.declared.types.Line.{Line}
 use Rattle.glyphs.specs.declared.types.Line.TheVariants.{PreNode, Node, PostNode, Link, SecondLink, Term, SecondTerm, Ancestry, PostAncestry}
 use Rattle.glyphs.specs.Cells.{PrefixLine, lines, glyphs_of, line_bytes}
 use Rattle.slices.specs.Characters.{newline}
 use Rattle.slices.specs.Joins.{joins, over}
-use Rattle.prefix_lines.specs.declared.Written.{Written}
 
 -- the kind letters: P N Q L L T T A Z
 abbrev pub letter : Line → ℕ
@@ -47,9 +47,10 @@ pub record Answer : Type 0 where
   pub length : ℕ
   pub output : List ℕ
 
--- what the renderer call gave, in the definition's words
-abbrev pub answer_of : Written → List ℕ → Answer
-answer_of w out = record { refusal = w.refusal; length = w.length; output = out }
+-- what the renderer call gave, a length or a refusal, in the definition's words
+abbrev pub answer_of : Result ℕ Refusal → List ℕ → Answer
+answer_of (Ok n) out = record { refusal = not_refused; length = n; output = out }
+answer_of (Err e) out = record { refusal = number e; length = 0; output = out }
 
 -- "A refusal gives its number, length 0, .. and changes no .. output." (01)
 abbrev pub answered : ℕ → List ℕ → List ℕ → Answer

@@ -5,7 +5,7 @@ ghost use Rattle.prefix_lines.specs.Inner.{frame_length, drawn_line, drawn_lines
 
 use crate::writer::Frame;
 use column::COLUMN_LIMIT;
-use glyphs::{Drawing, LINES, Line, cells_length, choose_cells, is_present, line_at};
+use glyphs::{Drawing, LINES, Line, cells_length, choose_cells, is_present};
 
 // How many bytes a line has beside its cells.
 fn frame_length(frame: Frame) -> usize
@@ -36,12 +36,9 @@ fn lines_length(frame: Frame, table: &[u8], drawing: Drawing) -> usize
     requires { drawing.width ≤ column_limit }
     ensures { result ≡ length (drawn_lines frame table.now drawing) }
 {
-    let mut count: usize = 0;
-    let mut k: usize = 0;
-    while k < LINES {
-        let line = line_at(k);
-        count += line_length(frame, table, drawing, line);
-        k += 1;
+    let mut count = 0;
+    for line in &LINES {
+        count += line_length(frame, table, drawing, *line);
     }
     count
 }
@@ -51,7 +48,7 @@ fn most_bytes(frame: Frame, width: usize) -> usize
     requires { width ≤ column_limit }
     ensures { result ≡ 9 * (8 * width + frame_length frame) }
 {
-    LINES * (8 * width + frame_length(frame))
+    LINES.len() * (8 * width + frame_length(frame))
 }
 
 // Whether an output of so many bytes has room for all lines; they are counted only where it is shorter than they can be at most.

@@ -6,9 +6,10 @@ ghost use Rattle.prefix_lines.specs.PrefixLines.{letter};
 ghost use Rattle.slices.specs.Joins.{over};
 
 use column::COLUMN_LIMIT;
-use glyphs::{Drawing, LINES, Line, choose_cells, is_present, line_at, write_cells};
+use glyphs::{Drawing, LINES, Line, choose_cells, is_present, write_cells};
 
-// What stands around a line's cells: the letter and the end, in a listing a colon and `$` too.
+// What stands around a line's cells: the letter and the end, in a listing a colon and `$` too. Two cases of one or two bytes: a trait with two
+// impls would be longer.
 #[derive(Clone, Copy)]
 pub(crate) enum Frame {
     Plain,
@@ -23,10 +24,8 @@ fn kind_letter(line: Line) -> u8
         Line::PreNode => b'P',
         Line::Node => b'N',
         Line::PostNode => b'Q',
-        Line::Link => b'L',
-        Line::SecondLink => b'L',
-        Line::Term => b'T',
-        Line::SecondTerm => b'T',
+        Line::Link | Line::SecondLink => b'L',
+        Line::Term | Line::SecondTerm => b'T',
         Line::Ancestry => b'A',
         Line::PostAncestry => b'Z',
     }
@@ -102,12 +101,9 @@ pub(crate) fn write_lines(out: &mut [u8], frame: Frame, table: &[u8], drawing: D
         × (out.new ≡ over (drawn_lines frame table.now drawing) out.old) }
 {
     let mut numbers = [0u8; COLUMN_LIMIT];
-    let mut at: usize = 0;
-    let mut k: usize = 0;
-    while k < LINES {
-        let line = line_at(k);
-        at += write_line(&mut out[at..], frame, table, &mut numbers, drawing, line);
-        k += 1;
+    let mut at = 0;
+    for line in &LINES {
+        at += write_line(&mut out[at..], frame, table, &mut numbers, drawing, *line);
     }
     at
 }

@@ -1,6 +1,7 @@
 -- The preview beside the width call, by what the two promise.
 use mathlib.Core.Path.{◌≡◌, ap, ◌∙◌}
 use mathlib.Core.List.{List, [], ◌∷◌}
+use Rattle.std.specs.Prelude.{Some}
 use Rattle.column.specs.declared.Column.{Column}
 use Rattle.column.specs.declared.Column.TheVariants as column
 use Rattle.column.specs.Columns.{live, origins}
@@ -12,13 +13,10 @@ use Rattle.shaper.specs.declared.Shaper.{Shaper}
 use Rattle.shaper.specs.Shaper.{View, view_with, view_of}
 use Rattle.placing.specs.Placing.{place}
 use Rattle.row_shape.specs.Row.{row}
-use Rattle.width.specs.declared.NewNode.TheVariants.{Node}
-use Rattle.width.specs.declared.WidthAnswer.{WidthAnswer}
-use Rattle.width.specs.Width.{width}
+use Rattle.width.specs.Width.{WidthAnswer, width}
 use Rattle.width.specs.Promises.{Widths}
-use Rattle.preview.specs.declared.PreviewAnswer.{PreviewAnswer}
 use Rattle.preview.specs.Preview.{PreviewReply, preview}
-use Rattle.preview.specs.Promises.{preview_reply_of, Previews}
+use Rattle.preview.specs.Promises.{PreviewAnswer, preview_reply_of, Previews}
 
 -- M10's entries, and its column beside a shaper's previous node's column and options
 abbrev m10-entries : List Entry
@@ -40,8 +38,8 @@ module _ (s : Shaper) (es : Entries) (c : live s.count s.slots ≡ column.Parent
       let k : preview_reply_of p ≡ preview (m10-view s) 7 m10-entries = h.reply ∙ same (λ v. preview v 7) in
       (ap (λ (r : PreviewReply). r.refusal) k, ap (λ (r : PreviewReply). r.width) k)
 
-  pub width-of-m10 : (w : WidthAnswer) → Widths s (Node 7) es w → (w.refusal ≡ 0) × (w.width ≡ 1)
+  pub width-of-m10 : (w : WidthAnswer) → Widths s (Some 7) es w → (w.refusal ≡ 0) × (w.width ≡ 1)
   unfolding width
   width-of-m10 w h =
-      let k : w ≡ width (m10-view s) (Node 7) m10-entries = h.reply ∙ same (λ v. width v (Node 7)) in
+      let k : w ≡ width (m10-view s) (Some 7) m10-entries = h.reply ∙ same (λ v. width v (Some 7)) in
       (ap (λ (r : WidthAnswer). r.refusal) k, ap (λ (r : WidthAnswer). r.width) k)

@@ -2,17 +2,16 @@
 #![tactic(auto)]
 
 ghost use Rattle.render.specs.Entries.{listed};
-ghost use Rattle.preview.specs.Promises.{Previews};
+ghost use Rattle.preview.specs.Promises.{preview_answer_from, Previews};
 
 use column::{COLUMN_LIMIT, Slot};
-use render::Entries;
+use render::{Entries, Refusal};
 use row_shape::next_row_shape;
 use shaper::Shaper;
 
-// What the preview gives: the refusal's number, the node's column, the width of the node line, and the columns after the row.
+// What the preview gives: the node's column, the width of the node line, and the columns after the row.
 #[derive(Clone, Copy)]
-pub struct PreviewAnswer {
-    pub refusal: u8,
+pub struct RowPreview {
     pub node_column: usize,
     pub width: usize,
     pub slots: [Slot; COLUMN_LIMIT],
@@ -20,18 +19,15 @@ pub struct PreviewAnswer {
 }
 
 // The preview of a row: the row call on the copy of the shaper that is handed in.
-pub fn preview(shaper: Shaper, node: u32, entries: Entries) -> PreviewAnswer
-    ensures { Previews shaper node (listed entries) result }
+pub fn preview(shaper: Shaper, node: u32, entries: Entries) -> Result<RowPreview, Refusal>
+    ensures { Previews shaper node (listed entries) (preview_answer_from shaper result) }
 {
-    let given = next_row_shape(shaper, node, entries);
-    let shape = given.shape;
-    let after = given.shaper;
-    let slots = after.slots;
-    PreviewAnswer {
-        refusal: given.refusal,
-        node_column: shape.node_column,
-        width: shape.width,
+    let next = next_row_shape(shaper, node, entries)?;
+    let slots = next.shaper.slots;
+    Ok(RowPreview {
+        node_column: next.shape.node_column,
+        width: next.shape.width,
         slots,
-        count: after.count,
-    }
+        count: next.shaper.count,
+    })
 }

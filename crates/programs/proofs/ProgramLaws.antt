@@ -9,15 +9,8 @@ use Rattle.steps.specs.declared.Progress.{Progress}
 use Rattle.steps.specs.Steps.{ProgressView, beginning, StepReply}
 use Rattle.steps.specs.Files.{Running, started_on, step_on, after_step}
 use Rattle.steps.specs.Promises.{progress_view_of}
-use Rattle.programs.specs.declared.Going.{Going}
-use Rattle.programs.specs.declared.Going.TheVariants.{On, Stopped, NotRead, NotWritten}
-use Rattle.programs.specs.declared.Program.{Program}
-use Rattle.programs.specs.Programs.{after_reads, WentOn, Ends, Runs}
-use Rattle.programs.specs.Inner.{step_of, Turns}
-
--- a program between two turns
-abbrev pub running : Progress → List ℕ → Running
-running p out = record { progress = progress_view_of p; output = out }
+use Rattle.programs.specs.Programs.{On, after_reads, WentOn}
+use Rattle.programs.specs.Inner.{running, Turns}
 
 -- ---- all turns
 
@@ -36,31 +29,21 @@ module _ (step : ProgressView → List ℕ → List ℕ → StepReply) where
 part-within : (n most : ℕ) (read : List ℕ) → length read ≡ most → length (take n read) ≤ most
 part-within n most read e = omega (arith, e, length-take n read)
 
-module _ (p : Program) (most : ℕ) (out : List ℕ) where
+module _ (step : ProgressView → List ℕ → List ℕ → StepReply) (most : ℕ) (out : List ℕ) where
   -- a program that has gone on so far
   pub record Reached (s : Running) : Type 0 where
     pub reads : List (List ℕ)
-    pub went : WentOn (step_of p) most (started_on out) reads
-    pub is : s ≡ after_reads (step_of p) (started_on out) reads
+    pub went : WentOn step most (started_on out) reads
+    pub is : s ≡ after_reads step (started_on out) reads
 
   pub reached-start : (q : Progress) → progress_view_of q ≡ beginning → Reached (running q out)
   reached-start q e = record { reads = []; went = tt; is = ap (λ (v : ProgressView). record { progress = v; output = out }) e }
 
-  pub reached-more : (s t : Running) (read : List ℕ) → length read ≡ most → Reached s → Turns p read s On t → Reached t
+  pub reached-more : (s t : Running) (read : List ℕ) → length read ≡ most → Reached s → Turns step read s On t → Reached t
   reached-more s t read full h turn =
       let piece : List ℕ = take turn.0 read in
       record {
         reads = h.reads ++ (piece ∷ []);
-        went = went-more (step_of p) most (started_on out) h.reads piece h.went (part-within turn.0 most read full) (rw h.is at turn.1);
-        is = turn.2 ∙ ap (λ (s : Running). after_step (step_of p) s piece) h.is ∙ sym (after_more (step_of p) (started_on out) h.reads piece);
+        went = went-more step most (started_on out) h.reads piece h.went (part-within turn.0 most read full) (rw h.is at turn.1);
+        is = turn.2 ∙ ap (λ (s : Running). after_step step s piece) h.is ∙ sym (after_more step (started_on out) h.reads piece);
       }
-
-  pub run-done : (s t : Running) (g : Going) (read : List ℕ) → length read ≡ most → (g ≡ On → ⊥) → Reached s → Turns p read s g t
-      → Runs (step_of p) most out (record { going = g; number = s.progress.number })
-  run-done s t g read full off h turn = record { reads = h.reads; went = h.went; ends = go g off turn; at = ap (λ (s : Running). s.progress.number) h.is }
-    where
-      go : (g : Going) → (g ≡ On → ⊥) → Turns p read s g t → Ends (step_of p) most (after_reads (step_of p) (started_on out) h.reads) g
-      go On off turn = absurd (off refl)
-      go Stopped off turn = (take turn.0 read, part-within turn.0 most read full, rw h.is at turn.1)
-      go NotRead off turn = tt
-      go NotWritten off turn = tt

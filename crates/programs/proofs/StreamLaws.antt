@@ -1,25 +1,23 @@
 -- What a program takes from a reader and adds to a writer, a read, a write, a turn and a run at a time.
-use Rattle.std.proofs.Common.{◌≡◌, ℕ, zero, suc, ◌+◌, ◌-◌, ◌*◌, ◌/◌, ◌<◌, ◌≤◌, ◌⊎◌, min, true≢false, inl, inr, Bool, true, false, List, [], ◌∷◌, ◌++◌, None, Some, length, take, drop, refl, sym, ap, subst, ◌∙◌, arith, length-take, length-take-le, length-drop, length-append, take-append-drop, take_all, append_assoc, append-nil}
+use Rattle.std.proofs.Common.{◌≡◌, ℕ, zero, suc, ◌+◌, ◌-◌, ◌*◌, ◌/◌, ◌<◌, ◌≤◌, ◌⊎◌, min, true≢false, inl, inr, Bool, true, false, List, [], ◌∷◌, ◌++◌, None, Some, Ok, Err, length, take, drop, refl, sym, ap, subst, ◌∙◌, arith, length-take, length-take-le, length-drop, length-append, take-append-drop, take_all, append_assoc, append-nil}
 use Rattle.std.specs.declared.option.Option.{Option}
+use Rattle.std.specs.declared.result.Result.{Result}
 use Rattle.std.specs.Io.KnownBytes.{Appends, Consumes, IsAtEnd}
 use Rattle.std.proofs.KnownBytes.{Appends-trans}
 use Rattle.std.proofs.Math.Seq.{take-append_seam, drop-append_seam, take-append-add, take-append-le, drop-nil}
 use lib.Seq.{take-add, drop-drop}
 use borrow.Rule.Slice.PartMut.{put_mid, post_of}
-use Rattle.record.specs.Record.{record_length, pieces, RecordView, next_record}
+use Rattle.record.specs.Record.{record_length, pieces}
 use Rattle.steps.specs.declared.Progress.{Progress}
-use Rattle.steps.specs.Steps.{ProgressView, beginning, StepReply, page_row, listing_row, on_record}
-use Rattle.steps.specs.Files.{Running, started_on, step_on, after_step, written_by, reads_of, step_by_step}
+use Rattle.steps.specs.Steps.{ProgressView, beginning, StepReply}
+use Rattle.steps.specs.Files.{Running, started_on, step_on, after_step, written_by, StopsShort, reads_of, step_by_step}
 use Rattle.steps.specs.Promises.{progress_view_of}
-use Rattle.programs.specs.declared.Going.{Going}
-use Rattle.programs.specs.declared.Going.TheVariants.{On, Stopped, NotRead, NotWritten}
-use Rattle.programs.specs.declared.Program.{Program}
-use Rattle.programs.specs.declared.Program.TheVariants.{Page, Listing}
-use borrow.Author.Tests.{lt-ltb}
-use Rattle.programs.specs.Programs.{after_reads, WentOn}
-use Rattle.programs.specs.Inner.{step_of}
+use Rattle.programs.specs.Programs.{Going, On, Stopped, NotRead, NotWritten, Run, after_reads, WentOn, run_of}
+use Rattle.programs.specs.declared.Failure.{Failure}
+use Rattle.programs.specs.declared.Failure.TheVariants.{NotRead as FailedRead, NotWritten as FailedWrite}
+use Rattle.programs.specs.Inner.{running, turn_of, kept_of, FailsAt}
 use Rattle.programs.specs.Streams.{Takes, Adds, TurnsOn, EndsOn, RunsOn, WhereKnown, Draws}
-use Rattle.programs.proofs.ProgramLaws.{running, after_more, went-more}
+use Rattle.programs.proofs.ProgramLaws.{after_more, went-more}
 use Rattle.programs.proofs.FileRuns.{stopped-bytes}
 
 -- ---- a read and a write
@@ -70,21 +68,6 @@ taken most (Some left) (Some less) piece h (inr e) =
 
 -- ---- a run
 
--- what `step_of` is to do for a piece that is shorter than a record: stop
-abbrev pub StopsShort : (ProgressView → List ℕ → List ℕ → StepReply) → Type 0
-StopsShort step = (s : Running) (piece : List ℕ) → length piece < record_length → (step_on step s piece).goes_on ≡ false
-
--- the record call finds no record in it: it is empty, or cut short
-no-record : (draws : ProgressView → RecordView → List ℕ → StepReply) (q : ProgressView) (out piece : List ℕ) → length piece < record_length
-    → (on_record draws q out (next_record piece).outcome (next_record piece).view).goes_on ≡ false
-unfolding next_record
-no-record draws q out [] h = refl
-no-record draws q out (b ∷ bs) h = rw (lt-ltb 0 (length (b ∷ bs)) (omega arith), lt-ltb (length (b ∷ bs)) record_length h) refl
-
-pub stops-short : (p : Program) → StopsShort (step_of p)
-stops-short Page s piece h = no-record page_row s.progress s.output piece h
-stops-short Listing s piece h = no-record listing_row s.progress s.output piece h
-
 -- what is read next is the first of what is left, and where that is a whole record the rest is read behind it
 reads-whole : (left : List ℕ) → record_length ≤ length left → reads_of left ≡ take record_length left ∷ reads_of (drop record_length left)
 reads-whole left h =
@@ -103,10 +86,7 @@ module _ (step : ProgressView → List ℕ → List ℕ → StepReply) where
       ap (λ (l : List ℕ). (step_on step s r).written ++ l) (written-more (after_step step s r) reads piece)
       ∙ sym (append_assoc (step_on step s r).written (written_by step (after_step step s r) reads) (step_on step (after_reads step (after_step step s r) reads) piece).written)
 
-module _ (p : Program) (out : List ℕ) where
-  abbrev step : ProgressView → List ℕ → List ℕ → StepReply
-  step = step_of p
-
+module _ (step : ProgressView → List ℕ → List ℕ → StepReply) (out : List ℕ) where
   abbrev from : Running
   from = started_on out
 
@@ -228,14 +208,21 @@ module _ (p : Program) (out : List ℕ) where
         leaves = ap Some (took.1 ∙ ap (drop record_length) h.ahead);
       }
 
+  -- a turn behind which a program does not go on
+  abbrev EndsTurn : Going → Type 0
+  EndsTurn On = ⊥
+  EndsTurn Stopped = Unit {0}
+  EndsTurn NotRead = Unit {0}
+  EndsTurn NotWritten = Unit {0}
+
   pub came-done : (file before left now less new : Option (List ℕ)) (s t : Running) (g : Going) → Came file before left now s
-      → (g ≡ On → ⊥) → TurnsOn step record_length s g t left less now new
+      → EndsTurn g → TurnsOn step record_length s g t left less now new
       → WhereKnown (λ f b a. Ended f b a less s g) file before new
   came-done None before left now less new s t g h off turn = tt
   came-done (Some file) None left now less new s t g h off turn = tt
   came-done (Some file) (Some before) None now less new s t g h off turn = absurd h
   came-done (Some file) (Some before) (Some left) None less new s t g h off turn = absurd h
-  came-done (Some file) (Some before) (Some left) (Some now) less new s t On h off turn = absurd (off refl)
+  came-done (Some file) (Some before) (Some left) (Some now) less new s t On h off turn = absurd off
   came-done (Some file) (Some before) (Some left) (Some now) None new s t Stopped h off turn = absurd turn.1
   came-done (Some file) (Some before) (Some left) (Some now) (Some less) None s t Stopped h off turn = absurd turn.3
   came-done (Some file) (Some before) (Some left) (Some now) (Some less) (Some new) s t Stopped h off turn = was-stopped file before left now less new s t h turn
@@ -245,29 +232,39 @@ module _ (p : Program) (out : List ℕ) where
   came-done (Some file) (Some before) (Some left) (Some now) (Some less) None s t NotWritten h off turn = absurd turn.2.1
   came-done (Some file) (Some before) (Some left) (Some now) (Some less) (Some new) s t NotWritten h off turn = was-not-written file before left now less new s t h turn
 
--- the same at a turn whose bytes are as many as a record's
-module _ (p : Program) (out : List ℕ) (most : ℕ) (full : most ≡ record_length) (file before left now less new : Option (List ℕ)) (s t : Running) (g : Going)
-    (h : Came p out file before left now s) (turn : TurnsOn (step_of p) most s g t left less now new) where
-  turns : TurnsOn (step_of p) record_length s g t left less now new
-  turns = subst (λ (n : ℕ). TurnsOn (step_of p) n s g t left less now new) full turn
+-- the same at what a turn gives, whose bytes are as many as a record's
+module _ (step : ProgressView → List ℕ → List ℕ → StepReply) (stops : StopsShort step) (out : List ℕ) (most : ℕ) (full : most ≡ record_length)
+    (file before left now less new : Option (List ℕ)) (q : Progress) (held then : List ℕ) (h : Came step out file before left now (running q held)) where
+  abbrev Turned : ℕ → Result (Option Progress) Failure → Type 0
+  Turned n r = TurnsOn step n (running q held) (turn_of r) (running (kept_of q r) then) left less now new
 
-  pub full-more : g ≡ On → Came p out file before less new t
-  full-more e = came-more p out (stops-short p) file before left now less new s t h (subst (λ (k : Going). TurnsOn (step_of p) record_length s k t left less now new) e turns)
+  abbrev RanTo : Result ℕ Failure → Type 0
+  RanTo r = WhereKnown (λ f b a. RunsOn step record_length out f b a less (run_of r)) file before new
 
-  pub full-done : (g ≡ On → ⊥) → WhereKnown (λ f b a. RunsOn (step_of p) record_length out f b a less (record { going = g; number = s.progress.number })) file before new
-  full-done off = came-done p out file before left now less new s t g h off turns
+  pub full-more : (o : Option Progress) (p : Progress) → o ≡ Some p → Turned most (Ok o) → Came step out file before less new (running p then)
+  full-more o p e t =
+      came-more step out stops file before left now less new (running q held) (running p then) h
+      (subst (λ (n : ℕ). Turned n (Ok (Some p))) full (subst (λ (o : Option Progress). Turned most (Ok o)) e t))
+
+  pub full-stopped : (o : Option Progress) → o ≡ None → Turned most (Ok o) → RanTo (Ok q.number)
+  full-stopped o e t =
+      came-done step out file before left now less new (running q held) (running q then) Stopped h tt
+      (subst (λ (n : ℕ). Turned n (Ok None)) full (subst (λ (o : Option Progress). Turned most (Ok o)) e t))
+
+  pub full-failed : (f : Failure) → FailsAt q.number (Err f) → Turned most (Err f) → RanTo (Err f)
+  full-failed (FailedRead k) e t =
+      rw e (came-done step out file before left now less new (running q held) (running q then) NotRead h tt (subst (λ (n : ℕ). Turned n (Err (FailedRead k))) full t))
+  full-failed (FailedWrite k) e t =
+      rw e (came-done step out file before left now less new (running q held) (running q then) NotWritten h tt (subst (λ (n : ℕ). Turned n (Err (FailedWrite k))) full t))
 
 -- where a step stops a run, all that is drawn for the file was added
-pub run-draws : (step : ProgressView → List ℕ → List ℕ → StepReply) (most : ℕ) (out : List ℕ) (g : Going) (k : ℕ) (file before after left : Option (List ℕ))
-    → WhereKnown (λ f b a. RunsOn step most out f b a left (record { going = g; number = k })) file before after
-    → WhereKnown (Draws (λ f. step_by_step step beginning out (reads_of f)) g) file before after
-run-draws step most out g k None before after left h = tt
-run-draws step most out g k (Some file) None after left h = tt
-run-draws step most out g k (Some file) (Some before) None left h = absurd h
-run-draws step most out On k (Some file) (Some before) (Some after) left h = tt
-run-draws step most out NotRead k (Some file) (Some before) (Some after) left h = tt
-run-draws step most out NotWritten k (Some file) (Some before) (Some after) left h = tt
-run-draws step most out Stopped k (Some file) (Some before) (Some after) left h = h.wrote ∙ ap (λ (l : List ℕ). before ++ l) (all h.behind h.pieces h.ends)
+pub run-draws : (step : ProgressView → List ℕ → List ℕ → StepReply) (most : ℕ) (out : List ℕ) (r : Run) (file before after left : Option (List ℕ))
+    → WhereKnown (λ f b a. RunsOn step most out f b a left r) file before after
+    → WhereKnown (Draws (λ f. step_by_step step beginning out (reads_of f)) r.going) file before after
+run-draws step most out r None before after left h = tt
+run-draws step most out r (Some file) None after left h = tt
+run-draws step most out r (Some file) (Some before) None left h = absurd h
+run-draws step most out r (Some file) (Some before) (Some after) left h = go r.going h.ends
   where
     all : (behind : List (List ℕ)) → reads_of file ≡ h.reads ++ behind → EndsOn step (after_reads step (started_on out) h.reads) Stopped behind h.last
         → written_by step (started_on out) h.reads ++ h.last ≡ step_by_step step beginning out (reads_of file)
@@ -277,3 +274,10 @@ run-draws step most out Stopped k (Some file) (Some before) (Some after) left h 
         ∙ sym (written-more step (started_on out) h.reads piece)
         ∙ sym (stopped-bytes step most (started_on out) h.reads piece rest h.went ends.0)
         ∙ ap (step_by_step step beginning out) (sym e)
+
+    go : (g : Going) → EndsOn step (after_reads step (started_on out) h.reads) g h.behind h.last
+        → Draws (λ f. step_by_step step beginning out (reads_of f)) g file before after
+    go On ends = tt
+    go NotRead ends = tt
+    go NotWritten ends = tt
+    go Stopped ends = h.wrote ∙ ap (λ (l : List ℕ). before ++ l) (all h.behind h.pieces ends)

@@ -1,10 +1,28 @@
 -- What a program did: the steps that it took on what it read, one after the other, and how it ended (01, "Added by us").
-use Rattle.std.specs.Prelude.{ℕ, ◌≤◌, ◌≡◌, true, false, List, [], ◌∷◌, ◌++◌, length}
+use Rattle.std.specs.Prelude.{ℕ, ◌≤◌, ◌≡◌, true, false, Ok, Err, List, [], ◌∷◌, ◌++◌, length}
+use Rattle.std.specs.declared.result.Result.{Result}
 use Rattle.steps.specs.Steps.{ProgressView, StepReply}
 use Rattle.steps.specs.Files.{Running, started_on, step_on, after_step, reads_of}
-use Rattle.programs.specs.declared.Going.{Going}
-use Rattle.programs.specs.declared.Going.TheVariants.{On, Stopped, NotRead, NotWritten}
-use Rattle.programs.specs.declared.Run.{Run}
+use Rattle.programs.specs.declared.Failure.{Failure}
+use Rattle.programs.specs.declared.Failure.TheVariants.{NotRead as FailedRead, NotWritten as FailedWrite}
+
+-- whether a program goes on behind a record, and why not: its step stopped it, or a read or a write failed
+pub data Going : Type 0 where
+  On : Going
+  Stopped : Going
+  NotRead : Going
+  NotWritten : Going
+
+-- how a program ended, and the number of the record at which it did
+pub record Run : Type 0 where
+  pub going : Going
+  pub number : ℕ
+
+-- the same of what a program gives
+abbrev pub run_of : Result ℕ Failure → Run
+run_of (Ok number) = record { going = Stopped; number = number }
+run_of (Err (FailedRead number)) = record { going = NotRead; number = number }
+run_of (Err (FailedWrite number)) = record { going = NotWritten; number = number }
 
 -- a program after steps on all that it read
 abbrev pub after_reads : (ProgressView → List ℕ → List ℕ → StepReply) → Running → List (List ℕ) → Running

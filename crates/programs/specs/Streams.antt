@@ -4,12 +4,7 @@ use Rattle.std.specs.Io.KnownBytes.{Keeps, Appends}
 use Rattle.std.specs.declared.option.Option.{Option}
 use Rattle.steps.specs.Steps.{ProgressView, StepReply}
 use Rattle.steps.specs.Files.{Running, started_on, step_on, after_step, written_by, reads_of}
-use Rattle.programs.specs.declared.Going.{Going}
-use Rattle.programs.specs.declared.Going.TheVariants.{On, Stopped, NotRead, NotWritten}
-use Rattle.programs.specs.declared.Reading.{Reading}
-use Rattle.programs.specs.declared.Reading.TheVariants.{Bytes, Failed}
-use Rattle.programs.specs.declared.Run.{Run}
-use Rattle.programs.specs.Programs.{after_reads, WentOn}
+use Rattle.programs.specs.Programs.{Going, On, Stopped, NotRead, NotWritten, Run, after_reads, WentOn}
 
 -- ---- a record
 
@@ -18,11 +13,6 @@ abbrev pub Takes : ℕ → Option (List ℕ) → Option (List ℕ) → List ℕ 
 Takes most None after piece = ⊤
 Takes most (Some left) None piece = ⊥
 Takes most (Some left) (Some after) piece = (piece ≡ take most left) × (after ≡ drop most left)
-
--- the bytes that reading a record gave are such a piece
-abbrev pub TakesRead : ℕ → Option (List ℕ) → Option (List ℕ) → List ℕ → Reading → Type 0
-TakesRead most left after read (Bytes n) = Takes most left after (take n read)
-TakesRead most left after read Failed = ⊤
 
 -- all of the bytes were added, or a first part of them where a write failed
 abbrev pub Adds : Option (List ℕ) → Option (List ℕ) → List ℕ → Bool → Type 0

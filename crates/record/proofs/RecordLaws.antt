@@ -2,24 +2,29 @@
 use Prim.Native.Nat.{ℕ, zero, suc, ◌+◌, ◌-◌, ◌<◌, ◌≤◌}
 use mathlib.Core.Path.{◌≡◌, refl, sym, ap, ◌∙◌}
 use mathlib.Core.Bool.{Bool, true, false}
-use mathlib.Core.List.{List, [], ◌∷◌, ◌++◌, map, append_assoc, append-nil}
+use mathlib.Core.List.{List, [], ◌∷◌, ◌++◌, map, append_assoc}
 use native.Mathlib.Numerals.{add-one}
 use native.Mathlib.Omega.{arith}
 use lib.Dec.{eqb, lit≤}
-use lib.ListN.{length, get_or, take, drop, set, replicate, length-append, length-map, length-take, drop_of_length-le}
-use lib.Seq.{take_at, set_at, take-suc, drop-cons, length-take-le}
-use borrow.Author.Tests.{eq-eqb, ne_eqb, lt-ltb, le-ltb, lt-leb}
+use lib.ListN.{length, get_or, take, drop, set, replicate, length-append, length-map, length-take}
+use lib.Seq.{take_at, set_at}
+use Rattle.std.specs.Prelude.{◌||◌, cond, ltb, Some, None, Ok, Err, position, unwrap_or}
+use Rattle.std.specs.Array.{IsFirstChunk}
+use Rattle.render.specs.declared.refusals.Refusal.TheVariants.{RecordCutShort, TooManyParents, KindAboveLimit}
+use Rattle.record.specs.declared.Record.{Record}
+use Rattle.std.specs.List.{list_any, position_or_len, range_with_len}
+use Rattle.std.proofs.Common.{take_all}
+use Rattle.std.proofs.lemmas.List.{get_or-take, drop-take}
+use Rattle.std.proofs.lemmas.List.Recursion.{is_position_or_len}
+use borrow.Author.Tests.{lt-ltb, le-ltb, lt-leb}
 use Rattle.render.specs.declared.render.Ancestor.{Ancestor}
 use Rattle.render.specs.declared.render.Ancestor.TheVariants.{Anonymous}
 use Rattle.render.specs.declared.render.Entry.{Entry}
 use Rattle.render.specs.declared.render.Entries.{Entries}
 use Rattle.render.specs.Entries.{entry_limit, listed, is_too_many, pushed}
 use Rattle.render.specs.Refusals.{record_cut_short, too_many_parents, kind_above_limit, refusal}
-use Rattle.record.specs.declared.Outcome.{Outcome}
-use Rattle.record.specs.declared.Outcome.TheVariants.{Ready, Ended, Refused}
-use Rattle.record.specs.declared.RecordAnswer.{RecordAnswer}
-use Rattle.record.specs.Record.{record_length, parent_count, kind_limit, message_room, RawEntry, written_at, written_from, used, entry_of, entry_place, any_above, up_to_zero, room_of, RecordView, record_of, no_record, RecordReply, outcome_of, record_checks, next_record, outcome_number}
-use Rattle.record.specs.Promises.{entry, entries_with, padded, record_with, record_view_of, Records}
+use Rattle.record.specs.Record.{record_length, parent_count, id_at, kind_limit, message_room, RawEntry, written_at, written_from, used, entry_of, entry_place, any_above, up_to_zero, room_of, RecordView, record_of, no_record, Outcome, Ready, Ended, Refused, RecordReply, outcome_of, record_checks, next_record, outcome_number}
+use Rattle.record.specs.Promises.{RecordAnswer, entry, entries_with, record_with, record_view_of, record_answer_from, Records}
 
 -- ---- room that is filled from its start
 
@@ -38,14 +43,6 @@ map_last f (b ∷ l) a = ap (λ r. f b ∷ r) (map_last f l a)
 
 -- ---- the entries as they are written
 module _ (s : List ℕ) where
-  pub written_next : (i n : ℕ) → i < n → written_from s i (n - i) ≡ written_at s i ∷ written_from s (i + 1) (n - (i + 1))
-  written_next i n h =
-      let e : n - i ≡ suc (n - (i + 1)) = omega arith in
-      ap (written_from s i) e ∙ ap (λ (k : ℕ). written_at s i ∷ written_from s k (n - (i + 1))) (sym (add-one i))
-
-  pub written_none : (i n : ℕ) → n ≤ i → written_from s i (n - i) ≡ []
-  written_none i n h = let e : n - i ≡ 0 = omega arith in ap (written_from s i) e
-
   written_last : (k n : ℕ) → written_from s k (suc n) ≡ written_from s k n ++ (written_at s (k + n) ∷ [])
   written_last k zero = let e : k ≡ k + 0 = omega arith in ap (λ (j : ℕ). written_at s j ∷ []) e
   written_last k (suc n) =
@@ -56,16 +53,32 @@ module _ (s : List ℕ) where
   written-length k zero = refl
   written-length k (suc n) = ap suc (written-length (suc k) n)
 
-  -- a search for a kind above the highest
-  module _ (m i n : ℕ) (e : any_above m (written_from s 0 n) ≡ any_above m (written_from s i (n - i))) where
-    pub above_hit : i < n → m < get_or s (entry_place i) 0 → true ≡ any_above m (written_from s 0 n)
-    above_hit h g = sym (e ∙ rw (written_next i n h, lt-ltb m (get_or s (entry_place i) 0) g) refl)
+  -- a search for a kind above the highest goes over the entries' places
+  pub any-range : (m k n : ℕ) → any_above m (written_from s k n) ≡ list_any (λ i. ltb m (get_or s (entry_place i) 0)) (range_with_len k n)
+  any-range m k zero = refl
+  any-range m k (suc n) =
+      ap (λ (b : Bool). ltb m (get_or s (entry_place k) 0) || b)
+      (any-range m (suc k) n ∙ ap (λ (j : ℕ). list_any (λ i. ltb m (get_or s (entry_place i) 0)) (range_with_len j n)) (sym (add-one k)))
 
-    pub above-next : i < n → get_or s (entry_place i) 0 ≤ m → any_above m (written_from s 0 n) ≡ any_above m (written_from s (i + 1) (n - (i + 1)))
-    above-next h g = e ∙ rw (written_next i n h, le-ltb m (get_or s (entry_place i) 0) g) refl
+  -- ---- a whole record's bytes, the first ones of what is left
 
-    pub above-none : n ≤ i → false ≡ any_above m (written_from s 0 n)
-    above-none h = sym (e ∙ rw (written_none i n h) refl)
+  id-first : (at : ℕ) → at + 4 ≤ record_length → id_at (take record_length s) at ≡ id_at s at
+  id-first at h =
+      rw (get_or-take record_length s at 0 (omega arith), get_or-take record_length s (at + 1) 0 (omega arith), get_or-take record_length s (at + 2) 0 (omega arith), get_or-take record_length s (at + 3) 0 (omega arith)) refl
+
+  written_first-at : (k : ℕ) → k < entry_limit → written_at (take record_length s) k ≡ written_at s k
+  written_first-at k h = rw (get_or-take record_length s (entry_place k) 0 (omega arith), id-first (entry_place k + 1) (omega arith)) refl
+
+  pub written-first : (k n : ℕ) → k + n ≤ entry_limit → written_from (take record_length s) k n ≡ written_from s k n
+  written-first k zero h = refl
+  written-first k (suc n) h = rw (written_first-at k (omega arith), written-first (suc k) n (omega arith)) refl
+
+  pub count-first : parent_count (take record_length s) ≡ parent_count s
+  count-first = get_or-take record_length s 5 0 (lit≤ tt)
+
+  pub record-first : parent_count s ≤ entry_limit → record_of (take record_length s) ≡ record_of s
+  record-first h =
+      rw (id-first 0 (lit≤ tt), get_or-take record_length s 4 0 (lit≤ tt), count-first, written-first 0 (parent_count s) (omega arith), drop-take 46 message_room s, take_all message_room (take message_room (drop 46 s)) (omega (arith, length-take message_room (drop 46 s)))) refl
 
 -- ---- the entries of a struct
 
@@ -112,22 +125,6 @@ entries_next s i p q f h =
 
 -- ---- a message
 
-module _ (s : List ℕ) (n : ℕ) (e : up_to_zero s ≡ take n s ++ up_to_zero (drop n s)) where
-  pub zero-next : n < length s → (get_or s n 0 ≡ 0 → ⊥) → up_to_zero s ≡ take (n + 1) s ++ up_to_zero (drop (n + 1) s)
-  zero-next h q =
-      e ∙ rw (add-one, drop-cons s n 0 h, ne_eqb (get_or s n 0) 0 q, take-suc s n 0 h, append_assoc (take n s)) refl
-
-  zero-end : n ≤ length s → up_to_zero (drop n s) ≡ [] → (n ≡ length (up_to_zero s)) × (take n s ≡ up_to_zero s)
-  zero-end h q =
-      let f : take n s ≡ up_to_zero s = sym (e ∙ ap (λ (l : List ℕ). take n s ++ l) q ∙ append-nil (take n s)) in
-      (sym (length-take-le n s h) ∙ ap length f, f)
-
-  pub zero-here : n < length s → get_or s n 0 ≡ 0 → (n ≡ length (up_to_zero s)) × (take n s ≡ up_to_zero s)
-  zero-here h q = zero-end (omega arith) (rw (drop-cons s n 0 h, eq-eqb (get_or s n 0) 0 q) refl)
-
-  pub zero-none : n ≤ length s → length s ≤ n → (n ≡ length (up_to_zero s)) × (take n s ≡ up_to_zero s)
-  zero-none h k = zero-end h (rw (drop_of_length-le s k) refl)
-
 pub zero-within : (s : List ℕ) → length (up_to_zero s) ≤ length s
 zero-within [] = lit≤ tt
 zero-within (b ∷ bs) = go (eqb b 0) refl (zero-within bs)
@@ -136,21 +133,38 @@ zero-within (b ∷ bs) = go (eqb b 0) refl (zero-within bs)
     go true e h = rw e (omega arith)
     go false e h = rw e (omega arith)
 
--- one byte more of a message
-pub pad-next : (s : List ℕ) (i : ℕ) {m : List ℕ} → m ≡ padded (take i s) → i < length s → i < message_room → set m i (get_or s i 0) ≡ padded (take (i + 1) s)
-pad-next s i e h k =
-    let l : length (take i s) ≡ i = length-take-le i s (omega arith) in
-    let n : length (take i s ++ (get_or s i 0 ∷ [])) ≡ suc i = rw (length-append (take i s) (get_or s i 0 ∷ []), l) (omega arith) in
-    rw (e, add-one, take-suc s i 0 h, n, l) (fill (take i s) 0 (get_or s i 0) message_room i l k)
+abbrev is_zero : ℕ → Bool
+is_zero b = eqb b 0
+
+zero-length : (s : List ℕ) → length (up_to_zero s) ≡ position_or_len is_zero s
+zero-length = is_position_or_len (λ (s : List ℕ). length (up_to_zero s)) is_zero refl (λ b bs. go b bs (eqb b 0))
+  where
+    go : (b : ℕ) (bs : List ℕ) (t : Bool) → length (cond t [] (b ∷ up_to_zero bs)) ≡ cond t 0 (1 + length (up_to_zero bs))
+    go b bs true = refl
+    go b bs false = omega arith
+
+zero-take : (s : List ℕ) → take (length (up_to_zero s)) s ≡ up_to_zero s
+zero-take [] = refl
+zero-take (b ∷ bs) = go (eqb b 0) (zero-take bs)
+  where
+    go : (t : Bool) → take (length (up_to_zero bs)) bs ≡ up_to_zero bs → take (length (cond t [] (b ∷ up_to_zero bs))) (b ∷ bs) ≡ cond t [] (b ∷ up_to_zero bs)
+    go true h = refl
+    go false h = ap (λ (l : List ℕ). b ∷ l) h
+
+-- the first zero byte, or the end, is where a message ends
+pub message-ends : (s : List ℕ) (n : ℕ) → n ≡ unwrap_or (position (λ b. eqb b 0) s) (length s) → (n ≡ length (up_to_zero s)) × (take n s ≡ up_to_zero s)
+message-ends s n e = (k, rw k (zero-take s))
+  where
+    go : (k n : ℕ) → k ≤ n → unwrap_or (cond (ltb k n) (Some k) None) n ≡ k
+    go k n h = grind arith
+
+    within : position_or_len is_zero s ≤ length s
+    within = rw (← zero-length s) (zero-within s)
+
+    k : n ≡ length (up_to_zero s)
+    k = e ∙ go (position_or_len is_zero s) (length s) within ∙ sym (zero-length s)
 
 -- ---- the call
-
--- a record's struct, from its parts
-pub record-done : (s : List ℕ) (parents n i : ℕ) (es : Entries) (m : List ℕ) → parents ≡ parent_count s
-    → (n ≡ length (up_to_zero (room_of s))) × (take n (room_of s) ≡ up_to_zero (room_of s)) → m ≡ padded (take n (room_of s))
-    → es ≡ entries_with (map entry_of (written_from s 0 parents)) → i ≡ (record_of s).id
-    → record { id = i; mark = get_or s 4 0; entries = es; message = m; message_length = n } ≡ record_with (record_of s)
-record-done s parents n i es m p (k, t) q f g = rw (q, t, f, p, g, k) refl
 
 -- what a struct holds that was made of a record
 view-with : (v : RecordView) → length v.entries ≤ entry_limit → record_view_of (record_with v) ≡ v
@@ -177,12 +191,12 @@ records-with left o v r d p q h k =
       rest = q ∙ ap (λ (a : RecordReply). record_with a.view) (sym d);
     }
 
-module _ (left : List ℕ) (r : RecordAnswer) where
+module _ (left : List ℕ) where
   -- an answer without a record
-  without : (o : Outcome) → next_record left ≡ record { outcome = o; view = no_record } → (r.outcome ≡ o) × (r.«record» ≡ record_with no_record) → Records left r
-  without o d (p, q) = records-with left o no_record r d p q (lit≤ tt) (lit≤ tt)
+  without : (o : Outcome) → next_record left ≡ record { outcome = o; view = no_record } → Records left (record { outcome = o; «record» = record_with no_record })
+  without o d = records-with left o no_record (record { outcome = o; «record» = record_with no_record }) d refl refl (lit≤ tt) (lit≤ tt)
 
-  pub ended-done : length left ≡ 0 → (r.outcome ≡ Ended) × (r.«record» ≡ record_with no_record) → Records left r
+  pub ended-done : length left ≡ 0 → Records left (record_answer_from (Ok None))
   unfolding next_record
   ended-done h = without Ended (go left h)
     where
@@ -191,36 +205,43 @@ module _ (left : List ℕ) (r : RecordAnswer) where
       go (b ∷ bs) h = absurd (omega arith)
 
   module _ (some : length left ≡ 0 → ⊥) where
-    pub short-done : length left < record_length → (r.outcome ≡ Refused record_cut_short) × (r.«record» ≡ record_with no_record) → Records left r
+    pub short-done : length left < record_length → Records left (record_answer_from (Err RecordCutShort))
     unfolding next_record
     short-done h = without (Refused record_cut_short) (rw (lt-ltb 0 (length left) (omega arith), lt-ltb (length left) record_length h) refl)
 
-    module _ (whole : record_length ≤ length left) (parents : ℕ) (p : parents ≡ parent_count left) where
-      pub many-done : entry_limit < parents → (r.outcome ≡ Refused too_many_parents) × (r.«record» ≡ record_with no_record) → Records left r
+    module _ (bytes : List ℕ) (first : IsFirstChunk left bytes record_length) (parents : ℕ) (p : parents ≡ parent_count bytes) where
+      count : parents ≡ parent_count left
+      count = p ∙ ap parent_count first.same ∙ count-first left
+
+      pub many-done : entry_limit < parents → Records left (record_answer_from (Err TooManyParents))
       unfolding next_record
       many-done h =
-          let m : entry_limit < parent_count left = omega arith in
-          without (Refused too_many_parents) (rw (lt-ltb 0 (length left) (omega arith), le-ltb (length left) record_length whole, lt-ltb entry_limit (parent_count left) m) refl)
+          let m : entry_limit < parent_count left = omega (arith, count) in
+          without (Refused too_many_parents)
+          (rw (lt-ltb 0 (length left) (omega arith), le-ltb (length left) record_length first.enough, lt-ltb entry_limit (parent_count left) m) refl)
 
       module _ (few : parents ≤ entry_limit) where
-        kinds : {t : Bool} → t ≡ any_above kind_limit (written_from left 0 parents) → any_above kind_limit (used left) ≡ t
-        kinds a = sym (a ∙ ap (λ (n : ℕ). any_above kind_limit (written_from left 0 n)) p)
+        kinds : {t : Bool} → t ≡ any_above kind_limit (written_from bytes 0 parents) → any_above kind_limit (used left) ≡ t
+        kinds a =
+            sym (a ∙ ap (λ (l : List ℕ). any_above kind_limit (written_from l 0 parents)) first.same
+            ∙ ap (any_above kind_limit) (written-first left 0 parents (omega (arith, few)))
+            ∙ ap (λ (n : ℕ). any_above kind_limit (written_from left 0 n)) count)
 
-        pub kind-done : true ≡ any_above kind_limit (written_from left 0 parents) → (r.outcome ≡ Refused kind_above_limit) × (r.«record» ≡ record_with no_record) → Records left r
+        pub kind-done : true ≡ any_above kind_limit (written_from bytes 0 parents) → Records left (record_answer_from (Err KindAboveLimit))
         unfolding next_record
         kind-done a =
-            let m : parent_count left ≤ entry_limit = omega arith in
+            let m : parent_count left ≤ entry_limit = omega (arith, count) in
             without (Refused kind_above_limit)
-            (rw (lt-ltb 0 (length left) (omega arith), le-ltb (length left) record_length whole, le-ltb entry_limit (parent_count left) m, kinds a) refl)
+            (rw (lt-ltb 0 (length left) (omega arith), le-ltb (length left) record_length first.enough, le-ltb entry_limit (parent_count left) m, kinds a) refl)
 
-        pub ready-done : false ≡ any_above kind_limit (written_from left 0 parents) → r.outcome ≡ Ready → r.«record» ≡ record_with (record_of left) → Records left r
+        pub ready-done : false ≡ any_above kind_limit (written_from bytes 0 parents) → (r : Record) → r ≡ record_with (record_of bytes) → Records left (record_answer_from (Ok (Some r)))
         unfolding next_record
-        ready-done a o q =
-            let m : parent_count left ≤ entry_limit = omega arith in
-            records-with left Ready (record_of left) r
-            (rw (lt-ltb 0 (length left) (omega arith), le-ltb (length left) record_length whole, le-ltb entry_limit (parent_count left) m, kinds a, ready left some) refl)
-            o
-            q
+        ready-done a r q =
+            let m : parent_count left ≤ entry_limit = omega (arith, count) in
+            records-with left Ready (record_of left) (record { outcome = Ready; «record» = r })
+            (rw (lt-ltb 0 (length left) (omega arith), le-ltb (length left) record_length first.enough, le-ltb entry_limit (parent_count left) m, kinds a, ready left some) refl)
+            refl
+            (q ∙ ap record_with (ap record_of first.same ∙ record-first left m))
             (rw (length-map (used left) entry_of, written-length left 0 (parent_count left)) (omega arith))
             (omega (arith, zero-within (room_of left), length-take message_room (drop 46 left)))
           where

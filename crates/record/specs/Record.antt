@@ -4,8 +4,6 @@ use Rattle.render.specs.declared.render.Ancestor.{Ancestor as Entry}
 use Rattle.render.specs.declared.render.Ancestor.TheVariants.{Ancestor as Indirect, Parent as Direct, Anonymous}
 use Rattle.render.specs.Entries.{entry_limit}
 use Rattle.render.specs.Refusals.{record_cut_short, too_many_parents, kind_above_limit, Check, ◌when◌, refusal}
-use Rattle.record.specs.declared.Outcome.{Outcome}
-use Rattle.record.specs.declared.Outcome.TheVariants.{Ready, Ended, Refused}
 
 -- ---- a record's bytes
 
@@ -102,6 +100,12 @@ record_checks left =
     ∷ (too_many_parents when ltb entry_limit (parent_count left))
     ∷ (kind_above_limit when any_above kind_limit (used left))
     ∷ []
+
+-- how a record call went: there is a record, no bytes are left, or they were refused, with the refusal's number
+pub data Outcome : Type 0 where
+  Ready : Outcome
+  Ended : Outcome
+  Refused : ℕ → Outcome
 
 -- how the call goes: "With no bytes left the record call says that the records have ended."
 abbrev pub outcome_of : ℕ → List ℕ → Outcome

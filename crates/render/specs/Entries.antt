@@ -1,5 +1,5 @@
 -- Parent entries (01, point 2), and the list that an array of them stands for.
-use Rattle.std.specs.Prelude.{ℕ, suc, Bool, true, false, cond, ◌||◌, List, [], ◌∷◌, map, ltb, leb, length, take, set, replicate}
+use Rattle.std.specs.Prelude.{ℕ, suc, Bool, true, false, cond, ◌||◌, List, map, ltb, leb, length, take, set, replicate}
 use Rattle.std.proofs.Math.Option.{Option, none, some}
 use Rattle.render.specs.declared.render.Ancestor.{Ancestor}
 use Rattle.render.specs.declared.render.Ancestor.TheVariants.{Ancestor as Indirect, Parent as Direct, Anonymous}
@@ -21,11 +21,6 @@ abbrev pub is_anonymous : Ancestor → Bool
 is_anonymous (Indirect n) = false
 is_anonymous (Direct n) = false
 is_anonymous Anonymous = true
-
--- whether one of a list passes a test, as in "no Anonymous entry"
-abbrev pub any_of {ℓ} : {A : Type ℓ} → (A → Bool) → List A → Bool
-any_of t [] = false
-any_of t (a ∷ l) = t a || any_of t l
 
 -- "more than 32 entries" (01, the table's row for row, width, text); "Nine entries now give 3" (02, R-5)
 abbrev pub is_too_many : List Ancestor → Bool

@@ -1,5 +1,7 @@
 -- How a call turns back (01, "Where a call turns back"): the refusals' numbers by name, and the checks of a call in order, "the first that holds is given, and only then".
 use Rattle.std.specs.Prelude.{ℕ, Bool, cond, List, [], ◌∷◌}
+use Rattle.render.specs.declared.refusals.Refusal.{Refusal}
+use Rattle.render.specs.declared.refusals.Refusal.TheVariants.{HeightAboveLimit, NoColumnLeft, TooManyEntries, NodeLineTooWide, MarkOutsideSpan, MessageTooLong, MessageByteNotWritable, OutputShorterThanLines, RecordCutShort, TooManyParents, KindAboveLimit, ShapeTooWide, IdNotBelowPrevious, ParentNotBelowId, UnequalRecords, OutputShorterThanResult, WidthOutsideSpan, TooFewCellsLeft, GlyphByteNotPrintable, TooManyRecords, TooManyReached, NoSuchRecord, ByteNotReadable, ByteNotAGlyph}
 
 -- ---- the numbers: the table of 01, then the checks of the requests in 02
 
@@ -102,6 +104,33 @@ byte_not_readable = 23
 -- R-13: "any other printable byte, or a line end, while shifted"
 abbrev pub byte_not_a_glyph : ℕ
 byte_not_a_glyph = 24
+
+-- the number of a refusal
+abbrev pub number : Refusal → ℕ
+number HeightAboveLimit = height_above_limit
+number NoColumnLeft = no_column_left
+number TooManyEntries = too_many_entries
+number NodeLineTooWide = node_line_too_wide
+number MarkOutsideSpan = mark_outside_span
+number MessageTooLong = message_too_long
+number MessageByteNotWritable = message_byte_not_writable
+number OutputShorterThanLines = output_shorter_than_lines
+number RecordCutShort = record_cut_short
+number TooManyParents = too_many_parents
+number KindAboveLimit = kind_above_limit
+number ShapeTooWide = shape_too_wide
+number IdNotBelowPrevious = id_not_below_previous
+number ParentNotBelowId = parent_not_below_id
+number UnequalRecords = unequal_records
+number OutputShorterThanResult = output_shorter_than_result
+number WidthOutsideSpan = width_outside_span
+number TooFewCellsLeft = too_few_cells_left
+number GlyphByteNotPrintable = glyph_byte_not_printable
+number TooManyRecords = too_many_records
+number TooManyReached = too_many_reached
+number NoSuchRecord = no_such_record
+number ByteNotReadable = byte_not_readable
+number ByteNotAGlyph = byte_not_a_glyph
 
 -- ---- the checks of a call
 

@@ -6,5 +6,5 @@ ghost use Rattle.render.specs.Mark.{is_mark};
 pub fn is_mark(byte: u8) -> bool
     ensures { result ≡ is_mark byte }
 {
-    (0x21 <= byte) & (byte <= 0x7e)
+    matches!(byte, 0x21..=0x7e)
 }

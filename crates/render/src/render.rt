@@ -6,7 +6,7 @@ ghost use Rattle.render.specs.Link.{meets, joined, only, unmarked, link_of};
 // The most entries of a row, and of a record.
 pub const ENTRY_LIMIT: usize = 8;
 
-// A parent entry's kind and id.
+// A parent entry's kind and id (`Ancestor` in render.rs).
 #[derive(Clone, Copy)]
 pub enum Ancestor {
     // The node is an eventual ancestor.
@@ -22,11 +22,7 @@ impl Ancestor {
     pub fn is_anonymous(self) -> bool
         ensures { result ≡ is_anonymous self }
     {
-        match self {
-            Ancestor::Ancestor(_) => false,
-            Ancestor::Parent(_) => false,
-            Ancestor::Anonymous => true,
-        }
+        matches!(self, Ancestor::Anonymous)
     }
 }
 
@@ -36,7 +32,8 @@ pub struct Entry {
     pub ancestor: Ancestor,
 }
 
-// The parent entries of a row by value: the first `count` of the list, unless there were too many.
+// The parent entries of a row by value: the first `count` of the list, unless there were too many. The flag stands beside them since that is refused
+// behind other checks, which a call has made by then.
 #[derive(Clone, Copy)]
 pub struct Entries {
     pub list: [Entry; ENTRY_LIMIT],
@@ -49,11 +46,11 @@ impl Entries {
     pub fn none() -> Entries
         ensures { result ≡ no_entries }
     {
-        let ancestor = Ancestor::Anonymous;
-        let entry = Entry { ancestor };
-        let list = [entry; ENTRY_LIMIT];
+        let unused = Entry {
+            ancestor: Ancestor::Anonymous,
+        };
         Entries {
-            list,
+            list: [unused; ENTRY_LIMIT],
             count: 0,
             too_many: false,
         }

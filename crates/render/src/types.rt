@@ -71,14 +71,12 @@ impl Cell {
     pub fn blank() -> Cell
         ensures { result ≡ blank_cell }
     {
-        let node = NodeLine::Blank;
-        let ancestry = PadLine::Blank;
         Cell {
-            node,
+            node: NodeLine::Blank,
             link: LinkLine::EMPTY,
             link_from_node: LinkLine::EMPTY,
             term: false,
-            ancestry,
+            ancestry: PadLine::Blank,
             parent: false,
         }
     }
@@ -93,13 +91,8 @@ impl NodeLine {
             NodeLine::Blank => PadLine::Blank,
             NodeLine::Ancestor => PadLine::Ancestor,
             NodeLine::Parent => PadLine::Parent,
-            NodeLine::Node => {
-                if use_blank_for_node {
-                    PadLine::Blank
-                } else {
-                    PadLine::Parent
-                }
-            }
+            NodeLine::Node if use_blank_for_node => PadLine::Blank,
+            NodeLine::Node => PadLine::Parent,
         }
     }
 }
@@ -109,13 +102,9 @@ impl PadLine {
     pub fn to_foot_line(self, dash_style: DashStyle) -> PadLine
         ensures { result ≡ foot_pad dash_style self }
     {
-        match self {
-            PadLine::Blank => self,
-            PadLine::Ancestor => match dash_style {
-                DashStyle::Persistent => self,
-                DashStyle::Once => PadLine::Parent,
-            },
-            PadLine::Parent => self,
+        match (self, dash_style) {
+            (PadLine::Ancestor, DashStyle::Once) => PadLine::Parent,
+            _ => self,
         }
     }
 }

@@ -1,6 +1,6 @@
-// What the codes of a payload stand for.
-use crate::input::{after, copy, flag_at, u8_at, u16_at, u32_at, u64_at};
-use column::{COLUMN_LIMIT, Column, Found, Slot};
+// What the codes of a payload stand for. The types are other crates', so a kind by number is a function and no `impl From<u8>`.
+use crate::payload::Payload;
+use column::{COLUMN_LIMIT, Column, Slot};
 use glyphs::Renderer;
 use lent::LIST_LIMIT;
 use output::{QUEUE_LIMIT, TextState};
@@ -8,71 +8,48 @@ use render::{
     Ancestor, Cell, DashStyle, Entry, LinkLine, LinkLinePlacement, NodeLine, Options, PadLine,
     RowShape, Style,
 };
-use width::NewNode;
+use shaper::Shaper;
 
 // The bytes of a slot: its kind and its id.
 const SLOT: usize = 5;
 
-// The bytes of a slot's origin.
-const ORIGIN: usize = 4;
-
 // The bytes of an entry: its kind and its id.
 const ENTRY: usize = 5;
 
-// The bytes of a cell: node, link, link from node, term, ancestry, parent.
-const CELL: usize = 8;
+// The entries that a call is made with: the first of a list. It stays an array and a count, since the calls of `lent` take these.
+#[derive(Clone, Copy)]
+pub(crate) struct EntryList {
+    pub(crate) entries: [Entry; LIST_LIMIT],
+    pub(crate) count: usize,
+}
+
+impl EntryList {
+    // A list without entries.
+    pub(crate) fn none() -> EntryList {
+        let entry = Entry {
+            ancestor: Ancestor::Anonymous,
+        };
+        EntryList {
+            entries: [entry; LIST_LIMIT],
+            count: 0,
+        }
+    }
+}
 
 // The dash style with this code.
-fn dash(code: u8) -> DashStyle {
-    if code == 0 {
-        DashStyle::Persistent
-    } else {
-        DashStyle::Once
+fn dash_style(code: u8) -> DashStyle {
+    match code {
+        0 => DashStyle::Persistent,
+        _ => DashStyle::Once,
     }
 }
 
 // The link placement with this code.
-fn placement(code: u8) -> LinkLinePlacement {
-    if code == 0 {
-        LinkLinePlacement::Top
-    } else {
-        LinkLinePlacement::Bottom
+fn link_line_placement(code: u8) -> LinkLinePlacement {
+    match code {
+        0 => LinkLinePlacement::Top,
+        _ => LinkLinePlacement::Bottom,
     }
-}
-
-// The style with these codes.
-pub(crate) fn style(dash_code: u8, placement_code: u8) -> Style {
-    let dash_style = dash(dash_code);
-    let link_line_placement = placement(placement_code);
-    Style {
-        dash_style,
-        link_line_placement,
-    }
-}
-
-// The style at a place: dash, placement.
-fn style_at(payload: &[u8], at: usize) -> Style {
-    style(u8_at(payload, at), u8_at(payload, after(at, 1)))
-}
-
-// The options at a place: height, stagger, style.
-pub(crate) fn options_at(payload: &[u8], at: usize) -> Options {
-    let min_row_height = u64_at(payload, at) as usize;
-    let stagger_consecutive_disconnected_nodes = flag_at(payload, after(at, 8));
-    let graph_row_shape_style = style_at(payload, after(at, 9));
-    Options {
-        min_row_height,
-        stagger_consecutive_disconnected_nodes,
-        graph_row_shape_style,
-    }
-}
-
-// The number at a place, if there is one: flag, number.
-pub(crate) fn found_at(payload: &[u8], at: usize) -> Found {
-    if flag_at(payload, at) {
-        return Found::At(u64_at(payload, after(at, 1)) as usize);
-    }
-    Found::Nothing
 }
 
 // The column with this kind and id; a kind above 4 is Empty.
@@ -86,36 +63,6 @@ fn column(kind: u8, id: u32) -> Column {
     }
 }
 
-// The slot at a place: kind, id; its origin is at another place.
-fn slot_at(payload: &[u8], at: usize, origin_at: usize) -> Slot {
-    let column = column(u8_at(payload, at), u32_at(payload, after(at, 1)));
-    let origin = u32_at(payload, origin_at);
-    Slot { column, origin }
-}
-
-// Where the origins begin of the slots at a place: behind all slots that are given, those past the array's end among them.
-fn origins_at(payload: &[u8], at: usize) -> usize {
-    let given = u8_at(payload, at) as usize;
-    after(at, 1 + SLOT * given)
-}
-
-// The slots at a place: how many are given, then those, then the origin of each. Slots not given are Empty.
-pub(crate) fn slots_at(payload: &[u8], at: usize) -> [Slot; COLUMN_LIMIT] {
-    let given = column::live_count(u8_at(payload, at) as usize);
-    let empty = Slot::empty();
-    let mut slots = [empty; COLUMN_LIMIT];
-    let mut place = after(at, 1);
-    let mut origin = origins_at(payload, at);
-    let mut i: usize = 0;
-    while i < given {
-        slots[i] = slot_at(payload, place, origin);
-        place = after(place, SLOT);
-        origin = after(origin, ORIGIN);
-        i += 1;
-    }
-    slots
-}
-
 // The parent entry with this kind and id; a kind above 2 is Anonymous.
 fn ancestor(kind: u8, id: u32) -> Ancestor {
     match kind {
@@ -125,89 +72,14 @@ fn ancestor(kind: u8, id: u32) -> Ancestor {
     }
 }
 
-// The entry at a place: kind, id.
-fn entry_at(payload: &[u8], at: usize) -> Entry {
-    let ancestor = ancestor(u8_at(payload, at), u32_at(payload, after(at, 1)));
-    Entry { ancestor }
-}
-
-// How many entries are given at a place.
-pub(crate) fn entry_count(payload: &[u8], at: usize) -> usize {
-    u16_at(payload, at) as usize
-}
-
-// The entries at a place: how many are given, then those, as far as the list goes. Entries not given are Anonymous.
-pub(crate) fn entries_at(payload: &[u8], at: usize) -> [Entry; LIST_LIMIT] {
-    let given = entry_count(payload, at);
-    let blank = entry_at(b"", 0);
-    let mut entries = [blank; LIST_LIMIT];
-    let mut place = after(at, 2);
-    let mut i: usize = 0;
-    while i < given && i < LIST_LIMIT {
-        entries[i] = entry_at(payload, place);
-        place = after(place, ENTRY);
-        i += 1;
-    }
-    entries
-}
-
-// Where the entries at a place end, those past the list's end among them.
-pub(crate) fn entries_end(payload: &[u8], at: usize) -> usize {
-    let given = u16_at(payload, at) as usize;
-    after(at, 2 + ENTRY * given)
-}
-
-// How many entries are given at a place, if there are any: flag, entries. Absent ones are none.
-pub(crate) fn optional_entry_count(payload: &[u8], at: usize) -> usize {
-    if flag_at(payload, at) {
-        return entry_count(payload, after(at, 1));
-    }
-    0
-}
-
-// The node at a place, if there is one: flag, id.
-pub(crate) fn new_node_at(payload: &[u8], at: usize) -> NewNode {
-    if flag_at(payload, at) {
-        return NewNode::Node(u32_at(payload, after(at, 1)));
-    }
-    NewNode::Absent
-}
-
 // The renderer with this code; one above 4 is DEC.
-pub(crate) fn renderer(code: u8) -> Renderer {
+fn renderer(code: u8) -> Renderer {
     match code {
         0 => Renderer::Ascii,
         1 => Renderer::AsciiLarge,
         2 => Renderer::Square,
         3 => Renderer::Curved,
         _ => Renderer::Dec,
-    }
-}
-
-// The lesser of a length and the queued line's greatest.
-pub(crate) fn queue_length(length: usize) -> usize {
-    if QUEUE_LIMIT < length {
-        return QUEUE_LIMIT;
-    }
-    length
-}
-
-// The queued line at a place: how many bytes are given, then those. Bytes not given are 0.
-fn queue_at(payload: &[u8], at: usize) -> [u8; QUEUE_LIMIT] {
-    let given = u16_at(payload, at) as usize;
-    let mut queue = [0u8; QUEUE_LIMIT];
-    copy(payload, after(at, 2), &mut queue, given);
-    queue
-}
-
-// The text state at the payload's beginning: queued (at 0), queued length (1), row height (9), queued line (17).
-pub(crate) fn text_state(payload: &[u8]) -> TextState {
-    let queued_pad_line = queue_at(payload, 17);
-    TextState {
-        queued_pad_line,
-        queued_length: u64_at(payload, 1) as usize,
-        is_queued: flag_at(payload, 0),
-        row_height: u64_at(payload, 9) as usize,
     }
 }
 
@@ -230,57 +102,191 @@ fn pad_line(code: u8) -> PadLine {
     }
 }
 
-// The cell at a place: node, link, link from node, term, ancestry, parent.
-fn cell_at(payload: &[u8], at: usize) -> Cell {
-    let node = node_line(u8_at(payload, at));
-    let link = LinkLine {
-        bits: u16_at(payload, after(at, 1)),
-    };
-    let link_from_node = LinkLine {
-        bits: u16_at(payload, after(at, 3)),
-    };
-    let ancestry = pad_line(u8_at(payload, after(at, 6)));
-    Cell {
-        node,
-        link,
-        link_from_node,
-        term: flag_at(payload, after(at, 5)),
-        ancestry,
-        parent: flag_at(payload, after(at, 7)),
+impl Payload<'_> {
+    // Dash, placement.
+    pub(crate) fn style(&mut self) -> Style {
+        let dash_style = dash_style(self.u8());
+        let link_line_placement = link_line_placement(self.u8());
+        Style {
+            dash_style,
+            link_line_placement,
+        }
     }
-}
 
-// The cells at a place: how many are given, then those. Cells not given are blank.
-fn cells_at(payload: &[u8], at: usize) -> [Cell; COLUMN_LIMIT] {
-    let given = column::live_count(u8_at(payload, at) as usize);
-    let blank = Cell::blank();
-    let mut cells = [blank; COLUMN_LIMIT];
-    let mut place = after(at, 1);
-    let mut i: usize = 0;
-    while i < given {
-        cells[i] = cell_at(payload, place);
-        place = after(place, CELL);
-        i += 1;
+    // Height, stagger, style.
+    pub(crate) fn options(&mut self) -> Options {
+        let min_row_height = self.size();
+        let stagger_consecutive_disconnected_nodes = self.flag();
+        let graph_row_shape_style = self.style();
+        Options {
+            min_row_height,
+            stagger_consecutive_disconnected_nodes,
+            graph_row_shape_style,
+        }
     }
-    cells
-}
 
-// The shape at the payload's beginning: node (at 0), merge (4), separator (5), style (6), head (8), root (9), node column (10),
-// width (18), whether it has a link line (26) and a term line (27), cells (28).
-pub(crate) fn shape(payload: &[u8]) -> RowShape {
-    let style = style_at(payload, 6);
-    let cells = cells_at(payload, 28);
-    RowShape {
-        node: u32_at(payload, 0),
-        merge: flag_at(payload, 4),
-        separator_line: flag_at(payload, 5),
-        style,
-        is_head: flag_at(payload, 8),
-        is_root: flag_at(payload, 9),
-        node_column: u64_at(payload, 10) as usize,
-        width: u64_at(payload, 18) as usize,
-        link_line: flag_at(payload, 26),
-        term_line: flag_at(payload, 27),
-        cells,
+    // A column's place, if there is one: flag, number.
+    fn place(&mut self) -> Option<usize> {
+        let is_given = self.flag();
+        let index = self.size();
+        is_given.then_some(index)
+    }
+
+    // A node, if there is one: flag, id; beside `place`, each of two reads.
+    pub(crate) fn node(&mut self) -> Option<u32> {
+        let is_given = self.flag();
+        let node = self.u32();
+        is_given.then_some(node)
+    }
+
+    // Kind, id.
+    fn column(&mut self) -> Column {
+        let kind = self.u8();
+        column(kind, self.u32())
+    }
+
+    // How many slots are given, then those, then the origin of each. Slots not given are Empty, those past the array's end are passed over.
+    fn slots(&mut self) -> [Slot; COLUMN_LIMIT] {
+        let given = usize::from(self.u8());
+        let mut columns = self.part(SLOT * given);
+        let mut slots = [Slot::empty(); COLUMN_LIMIT];
+        for slot in slots.iter_mut().take(given) {
+            *slot = Slot {
+                column: columns.column(),
+                origin: self.u32(),
+            };
+        }
+        slots
+    }
+
+    // Count, previous, options, slots.
+    pub(crate) fn shaper(&mut self) -> Shaper {
+        let count = self.size();
+        let previous_node_column = self.place();
+        let options = self.options();
+        let slots = self.slots();
+        Shaper {
+            slots,
+            count,
+            previous_node_column,
+            options,
+        }
+    }
+
+    // Kind, id.
+    fn entry(&mut self) -> Entry {
+        let kind = self.u8();
+        let ancestor = ancestor(kind, self.u32());
+        Entry { ancestor }
+    }
+
+    // How many entries are given, then those. Those past the list's end are passed over.
+    pub(crate) fn entries(&mut self) -> EntryList {
+        let count = usize::from(self.u16());
+        let mut given = self.part(ENTRY * count);
+        let mut list = EntryList::none();
+        list.count = count;
+        for entry in list.entries.iter_mut().take(count) {
+            *entry = given.entry();
+        }
+        list
+    }
+
+    // Entries, if there are any: flag, entries.
+    pub(crate) fn optional_entries(&mut self) -> EntryList {
+        if self.flag() {
+            self.entries()
+        } else {
+            EntryList::none()
+        }
+    }
+
+    pub(crate) fn renderer(&mut self) -> Renderer {
+        renderer(self.u8())
+    }
+
+    // A queued line: how many bytes are given, then those. Bytes not given are 0.
+    fn queue(&mut self) -> [u8; QUEUE_LIMIT] {
+        let given = usize::from(self.u16());
+        let mut queue = [0; QUEUE_LIMIT];
+        for (byte, given) in queue.iter_mut().zip(self.take(given)) {
+            *byte = *given;
+        }
+        queue
+    }
+
+    // Queued, queued length, row height, queued line.
+    pub(crate) fn text_state(&mut self) -> TextState {
+        let is_queued = self.flag();
+        let queued_length = self.size();
+        let row_height = self.size();
+        let queued_pad_line = self.queue();
+        TextState {
+            queued_pad_line,
+            queued_length,
+            is_queued,
+            row_height,
+        }
+    }
+
+    fn link_line(&mut self) -> LinkLine {
+        let bits = self.u16();
+        LinkLine { bits }
+    }
+
+    // Node, link, link from node, term, ancestry, parent.
+    fn cell(&mut self) -> Cell {
+        let node = node_line(self.u8());
+        let link = self.link_line();
+        let link_from_node = self.link_line();
+        let term = self.flag();
+        let ancestry = pad_line(self.u8());
+        let parent = self.flag();
+        Cell {
+            link,
+            link_from_node,
+            node,
+            term,
+            ancestry,
+            parent,
+        }
+    }
+
+    // How many cells are given, then those. Cells not given are blank.
+    fn cells(&mut self) -> [Cell; COLUMN_LIMIT] {
+        let given = usize::from(self.u8());
+        let mut cells = [Cell::blank(); COLUMN_LIMIT];
+        for cell in cells.iter_mut().take(given) {
+            *cell = self.cell();
+        }
+        cells
+    }
+
+    // Node, merge, separator, style, head, root, node column, width, whether it has a link line and a term line, cells.
+    pub(crate) fn shape(&mut self) -> RowShape {
+        let node = self.u32();
+        let merge = self.flag();
+        let separator_line = self.flag();
+        let style = self.style();
+        let is_head = self.flag();
+        let is_root = self.flag();
+        let node_column = self.size();
+        let width = self.size();
+        let link_line = self.flag();
+        let term_line = self.flag();
+        let cells = self.cells();
+        RowShape {
+            node,
+            merge,
+            separator_line,
+            style,
+            is_head,
+            is_root,
+            node_column,
+            width,
+            link_line,
+            term_line,
+            cells,
+        }
     }
 }

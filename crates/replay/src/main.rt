@@ -3,121 +3,63 @@
 
 mod answers;
 mod codes;
-mod input;
 mod page;
-mod printer;
+mod payload;
 mod records;
 mod run;
 mod shapes;
 mod words;
 
-use input::{Bytes, HEADER};
-use page::Page;
-use printer::{Buffer, Printer};
-use run::State;
-use std::io::{Stdin, Stdout};
+use payload::{Command, HEADER, Header, Payload};
+use run::Machine;
+use std::alloc::Global;
+use std::io;
+use std::io::{BufReader, BufWriter, Read, Write};
 
-// What is kept from command to command: the state, the printer, and where the bytes not yet answered begin and end.
-#[derive(Clone, Copy)]
-struct Progress {
-    state: State,
-    printer: Printer,
-    at: usize,
-    end: usize,
+// How many bytes are read, and how many are written, at a time.
+const PIECE: usize = 65536;
+
+// Fills these bytes, and says whether the stream has as many left: it ends where a read fails, too.
+fn read_whole<I: Read>(input: &mut I, bytes: &mut [u8]) -> bool {
+    input.read_exact(bytes).is_ok()
 }
 
-// Answers one command.
-fn answer(
-    letter: u8,
-    payload: &[u8],
-    page: &mut Page,
-    out: &mut Buffer,
-    progress: Progress,
-) -> Progress {
-    let state = progress.state;
-    let reply = run::run(letter, payload, page, state);
-    let before = progress.printer;
-    let printer = answers::put_reply(out, before, page, reply);
-    let after = reply.state;
-    Progress {
-        state: after,
-        printer,
-        at: progress.at,
-        end: progress.end,
-    }
-}
-
-// Answers every whole command of the bytes, up to a write that fails.
-fn answer_all(bytes: &[u8], page: &mut Page, out: &mut Buffer, progress: Progress) -> Progress {
-    let mut now = progress;
-    let mut at: usize = 0;
-    while at < bytes.len() {
-        let end = input::command_end(bytes, at);
-        if end <= at {
-            now.at = at;
-            return now;
+// Answers every whole command of a stream. A proved loop has to end, so this one counts its turns, to a number that no run uses up.
+fn answer_stream<I: Read, O: Write>(input: &mut I, out: &mut O, alloc: Global) -> io::Result<()> {
+    let mut machine = Machine::new(alloc)?;
+    let mut bytes = Vec::new(alloc);
+    for _ in 0..u64::MAX {
+        let mut header = [0; HEADER];
+        if !read_whole(input, &mut header) {
+            break;
         }
-        let letter = bytes[at];
-        let payload = input::part(bytes, at + HEADER, end);
-        now = answer(letter, payload, page, out, now);
-        let printer = now.printer;
-        if !printer.open {
-            return now;
+        let Header { letter, length } = Header::from(header);
+        bytes.resize(usize::from(length), 0)?;
+        if !read_whole(input, &mut bytes) {
+            break;
         }
-        at = end;
+        let payload = Payload::new(&bytes);
+        let answer = machine.run(Command { letter, payload })?;
+        answers::write_answer(out, &answer, &machine)?;
     }
-    now.at = at;
-    now
+    Ok(())
 }
 
-// Reads as much as there is room for and answers it. The printer is closed where the stream ends.
-fn answer_more(
-    mut stdin: Stdin,
-    bytes: &mut Bytes,
-    page: &mut Page,
-    out: &mut Buffer,
-    progress: Progress,
-) -> Progress {
-    let kept = input::keep(bytes, progress.at, progress.end);
-    let end = input::fill(&mut stdin, bytes, kept);
-    let mut next = progress;
-    next.end = end;
-    if end <= kept {
-        let last = progress.printer;
-        let printer = printer::close(out, last);
-        next.printer = printer;
-        return next;
+// Answers standard input.
+fn answer_input(rt: HostRuntime) -> io::Result<()> {
+    let alloc = rt.alloc();
+    let mut input = BufReader::with_capacity(alloc, PIECE, rt.stdin())?;
+    let mut out = BufWriter::with_capacity(alloc, PIECE, rt.stdout())?;
+    let answered = answer_stream(&mut input, &mut out, alloc);
+    if answered.is_err() {
+        // what waits in the buffer is not tried once more
+        let _ = out.into_parts();
+        return answered;
     }
-    answer_all(input::part(bytes, 0, end), page, out, next)
+    out.flush()
 }
 
-// Answers the stream. A proved loop has to end, so this one counts its turns down, from a number that no run uses up.
-fn answer_stream(
-    stdin: Stdin,
-    stdout: Stdout,
-    bytes: &mut Bytes,
-    page: &mut Page,
-    out: &mut Buffer,
-) {
-    let state = State::new();
-    let printer = Printer::new(stdout);
-    let mut progress = Progress {
-        state,
-        printer,
-        at: 0,
-        end: 0,
-    };
-    let mut turns = u64::MAX;
-    while turns > 0 && progress.printer.open {
-        progress = answer_more(stdin, bytes, page, out, progress);
-        turns -= 1;
-    }
-}
-
-// Lends the buffers.
+// Answers standard input; a write that failed ends it in silence.
 fn main(rt: HostRuntime) {
-    let mut bytes = [0u8; input::ROOM];
-    let mut page = [0u8; page::ROOM];
-    let mut out = [0u8; printer::ROOM];
-    answer_stream(rt.stdin(), rt.stdout(), &mut bytes, &mut page, &mut out);
+    let _ = answer_input(rt);
 }

@@ -1,210 +1,149 @@
-// Words and values: all that is printed by name comes out of a table, a text in which each word ends in a `|`.
-use crate::input::{after, part};
-use crate::printer::{Buffer, Printer, put, put_number};
-use column::Found;
-use render::{DashStyle, LinkLine, LinkLinePlacement, NodeLine, PadLine, Style};
-
-// A set of words has a bit for each: the place of the word in the table of `put_set`.
-const NO_MARK: u32 = 1 << 0;
-
-const BLANK: u32 = 1 << 1;
-
-pub(crate) const ANCESTOR: u32 = 1 << 2;
-
-pub(crate) const PARENT: u32 = 1 << 3;
-
-const NODE: u32 = 1 << 4;
-
-const NO: u32 = 1 << 5;
-
-const YES: u32 = 1 << 6;
-
-pub(crate) const EMPTY: u32 = 1 << 7;
-
-pub(crate) const BLOCKED: u32 = 1 << 8;
-
-pub(crate) const RESERVED: u32 = 1 << 9;
-
-const PERSISTENT: u32 = 1 << 10;
-
-const ONCE: u32 = 1 << 11;
-
-const TOP: u32 = 1 << 12;
-
-const BOTTOM: u32 = 1 << 13;
-
-const NONE: u32 = 1 << 14;
-
-pub(crate) const ANONYMOUS: u32 = 1 << 15;
-
-// The place of the first mark: the marks of a link cell stand last, in the order of their bits.
-const FIRST_MARK: u32 = 16;
-
-// The bits of the thirteen marks in a link cell.
-const MARKS: u32 = 8191;
-
-// How many words there are.
-const WORDS: u32 = 29;
-
-// What a field holds: a set of words or, where that is empty, a number.
-#[derive(Clone, Copy)]
-pub(crate) struct Value {
-    words: u32,
-    number: u64,
-}
-
-// A number.
-pub(crate) fn number(number: u64) -> Value {
-    Value { words: 0, number }
-}
-
-// A flag's word.
-pub(crate) fn flag_word(flag: bool) -> u32 {
-    if flag { YES } else { NO }
-}
+// Values as they are printed.
+use column::{Column, Slot};
+use render::{Ancestor, DashStyle, Entry, LinkLine, LinkLinePlacement, NodeLine, PadLine};
+use std::fmt;
+use std::fmt::{Display, Formatter};
 
 // A flag.
-pub(crate) fn flag(flag: bool) -> Value {
-    Value {
-        words: flag_word(flag),
-        number: 0,
-    }
-}
+#[derive(Clone, Copy)]
+pub(crate) struct Flag(pub(crate) bool);
 
 // A style's dash style.
-pub(crate) fn dash(style: Style) -> Value {
-    let dash_style = style.dash_style;
-    let words = match dash_style {
-        DashStyle::Persistent => PERSISTENT,
-        DashStyle::Once => ONCE,
-    };
-    Value { words, number: 0 }
-}
+#[derive(Clone, Copy)]
+pub(crate) struct Dash(pub(crate) DashStyle);
 
 // A style's link placement.
-pub(crate) fn placement(style: Style) -> Value {
-    let link_line_placement = style.link_line_placement;
-    let words = match link_line_placement {
-        LinkLinePlacement::Top => TOP,
-        LinkLinePlacement::Bottom => BOTTOM,
-    };
-    Value { words, number: 0 }
-}
+#[derive(Clone, Copy)]
+pub(crate) struct Placement(pub(crate) LinkLinePlacement);
 
-// A column's place, or `none`.
-pub(crate) fn found(found: Found) -> Value {
-    match found {
-        Found::At(index) => number(index as u64),
-        Found::Nothing => Value {
-            words: NONE,
-            number: 0,
-        },
-    }
-}
+// A column's place, if there is one.
+#[derive(Clone, Copy)]
+pub(crate) struct Place(pub(crate) Option<usize>);
+
+// A column, and the node that it carries.
+#[derive(Clone, Copy)]
+pub(crate) struct Held(pub(crate) Slot);
+
+// A parent entry.
+#[derive(Clone, Copy)]
+pub(crate) struct Named(pub(crate) Entry);
 
 // A node line's cell.
-pub(crate) fn node_word(node: NodeLine) -> u32 {
-    match node {
-        NodeLine::Blank => BLANK,
-        NodeLine::Ancestor => ANCESTOR,
-        NodeLine::Parent => PARENT,
-        NodeLine::Node => NODE,
-    }
-}
+#[derive(Clone, Copy)]
+pub(crate) struct Node(pub(crate) NodeLine);
 
 // An ancestry line's cell.
-pub(crate) fn pad_word(pad: PadLine) -> u32 {
-    match pad {
-        PadLine::Blank => BLANK,
-        PadLine::Ancestor => ANCESTOR,
-        PadLine::Parent => PARENT,
+#[derive(Clone, Copy)]
+pub(crate) struct Pad(pub(crate) PadLine);
+
+// A link line's cell.
+#[derive(Clone, Copy)]
+pub(crate) struct Link(pub(crate) LinkLine);
+
+// The marks of a link cell by name, in the order of their bits.
+const MARKS: [(&str, LinkLine); 13] = [
+    ("HORIZ_PARENT", LinkLine::HORIZ_PARENT),
+    ("HORIZ_ANCESTOR", LinkLine::HORIZ_ANCESTOR),
+    ("VERT_PARENT", LinkLine::VERT_PARENT),
+    ("VERT_ANCESTOR", LinkLine::VERT_ANCESTOR),
+    ("LEFT_FORK_PARENT", LinkLine::LEFT_FORK_PARENT),
+    ("LEFT_FORK_ANCESTOR", LinkLine::LEFT_FORK_ANCESTOR),
+    ("RIGHT_FORK_PARENT", LinkLine::RIGHT_FORK_PARENT),
+    ("RIGHT_FORK_ANCESTOR", LinkLine::RIGHT_FORK_ANCESTOR),
+    ("LEFT_MERGE_PARENT", LinkLine::LEFT_MERGE_PARENT),
+    ("LEFT_MERGE_ANCESTOR", LinkLine::LEFT_MERGE_ANCESTOR),
+    ("RIGHT_MERGE_PARENT", LinkLine::RIGHT_MERGE_PARENT),
+    ("RIGHT_MERGE_ANCESTOR", LinkLine::RIGHT_MERGE_ANCESTOR),
+    ("CHILD", LinkLine::CHILD),
+];
+
+impl Display for Flag {
+    fn fmt<W: fmt::Write>(&self, f: &mut Formatter<W>) -> fmt::Result {
+        f.write_str(if self.0 { "yes" } else { "no" })
     }
 }
 
-// A link line's cell: its marks, of which the free bits are none.
-pub(crate) fn link_words(link: LinkLine) -> u32 {
-    let marks = link.bits as u32 & MARKS;
-    if marks == 0 {
-        NO_MARK
-    } else {
-        marks << FIRST_MARK
+impl Display for Dash {
+    fn fmt<W: fmt::Write>(&self, f: &mut Formatter<W>) -> fmt::Result {
+        f.write_str(match self.0 {
+            DashStyle::Persistent => "Persistent",
+            DashStyle::Once => "Once",
+        })
     }
 }
 
-// Where the word that begins here ends.
-fn word_end(words: &[u8], start: usize) -> usize {
-    let mut at = start;
-    while at < words.len() && words[at] != b'|' {
-        at += 1;
+impl Display for Placement {
+    fn fmt<W: fmt::Write>(&self, f: &mut Formatter<W>) -> fmt::Result {
+        f.write_str(match self.0 {
+            LinkLinePlacement::Top => "Top",
+            LinkLinePlacement::Bottom => "Bottom",
+        })
     }
-    at
 }
 
-// Where the word with this number begins.
-fn word_start(words: &[u8], number: u32) -> usize {
-    let mut at: usize = 0;
-    let mut passed: u32 = 0;
-    while passed < number {
-        at = after(word_end(words, at), 1);
-        passed += 1;
-    }
-    at
-}
-
-// Prints the word with this number.
-pub(crate) fn put_word(out: &mut Buffer, printer: Printer, words: &[u8], number: u32) -> Printer {
-    let start = word_start(words, number);
-    let end = word_end(words, start);
-    put(out, printer, part(words, start, end))
-}
-
-// The plus in front of every word but the first.
-fn put_plus(out: &mut Buffer, printer: Printer, first: bool) -> Printer {
-    if first {
-        return printer;
-    }
-    put(out, printer, b"+")
-}
-
-// Prints a set of words, joined by `+`.
-fn put_words(out: &mut Buffer, printer: Printer, words: &[u8], set: u32) -> Printer {
-    let mut now = printer;
-    let mut left = set;
-    let mut first = true;
-    let mut number: u32 = 0;
-    while number < WORDS && left != 0 {
-        if left & 1 != 0 {
-            let joined = put_plus(out, now, first);
-            now = put_word(out, joined, words, number);
-            first = false;
+impl Display for Place {
+    fn fmt<W: fmt::Write>(&self, f: &mut Formatter<W>) -> fmt::Result {
+        match self.0 {
+            Some(index) => write!(f, "{index}"),
+            None => f.write_str("none"),
         }
-        left = left >> 1;
-        number += 1;
     }
-    now
 }
 
-// Prints a set of words out of the table.
-pub(crate) fn put_set(out: &mut Buffer, printer: Printer, set: u32) -> Printer {
-    put_words(
-        out,
-        printer,
-        b"-|Blank|Ancestor|Parent|Node|no|yes|Empty|Blocked|Reserved|Persistent|Once|Top|Bottom|none|Anonymous|HORIZ_PARENT|HORIZ_ANCESTOR|VERT_PARENT|VERT_ANCESTOR|LEFT_FORK_PARENT|LEFT_FORK_ANCESTOR|RIGHT_FORK_PARENT|RIGHT_FORK_ANCESTOR|LEFT_MERGE_PARENT|LEFT_MERGE_ANCESTOR|RIGHT_MERGE_PARENT|RIGHT_MERGE_ANCESTOR|CHILD|",
-        set,
-    )
+impl Display for Held {
+    fn fmt<W: fmt::Write>(&self, f: &mut Formatter<W>) -> fmt::Result {
+        let Slot { column, origin } = self.0;
+        match column {
+            Column::Empty => f.write_str("Empty"),
+            Column::Blocked => f.write_str("Blocked"),
+            Column::Reserved(id) => write!(f, "Reserved {id}"),
+            Column::Ancestor(id) => write!(f, "Ancestor {id} by {origin}"),
+            Column::Parent(id) => write!(f, "Parent {id} by {origin}"),
+        }
+    }
 }
 
-// Prints a field: the name with this number, and the value behind it.
-pub(crate) fn put_field(
-    out: &mut Buffer,
-    printer: Printer,
-    names: &[u8],
-    number: u32,
-    value: Value,
-) -> Printer {
-    let named = put_word(out, printer, names, number);
-    if value.words == 0 {
-        return put_number(out, named, value.number);
+impl Display for Named {
+    fn fmt<W: fmt::Write>(&self, f: &mut Formatter<W>) -> fmt::Result {
+        match self.0.ancestor {
+            Ancestor::Anonymous => f.write_str("Anonymous"),
+            Ancestor::Ancestor(id) => write!(f, "Ancestor {id}"),
+            Ancestor::Parent(id) => write!(f, "Parent {id}"),
+        }
     }
-    put_set(out, named, value.words)
+}
+
+impl Display for Node {
+    fn fmt<W: fmt::Write>(&self, f: &mut Formatter<W>) -> fmt::Result {
+        f.write_str(match self.0 {
+            NodeLine::Blank => "Blank",
+            NodeLine::Ancestor => "Ancestor",
+            NodeLine::Parent => "Parent",
+            NodeLine::Node => "Node",
+        })
+    }
+}
+
+impl Display for Pad {
+    fn fmt<W: fmt::Write>(&self, f: &mut Formatter<W>) -> fmt::Result {
+        f.write_str(match self.0 {
+            PadLine::Blank => "Blank",
+            PadLine::Ancestor => "Ancestor",
+            PadLine::Parent => "Parent",
+        })
+    }
+}
+
+impl Display for Link {
+    fn fmt<W: fmt::Write>(&self, f: &mut Formatter<W>) -> fmt::Result {
+        let link = self.0;
+        if !MARKS.iter().any(|(_, mark)| link.intersects(*mark)) {
+            return f.write_str("-");
+        }
+        let names = MARKS
+            .iter()
+            .filter(|(_, mark)| link.intersects(*mark))
+            .map(|(name, _)| *name);
+        f.write_joined(names, "+")
+    }
 }

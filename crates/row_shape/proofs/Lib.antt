@@ -1,3 +1,2 @@
-pub mod NextRow
+pub mod RowCall
 pub mod RowFits
-pub mod RowLaws

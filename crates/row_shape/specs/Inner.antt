@@ -1,6 +1,6 @@
 -- What the inner functions of the row call give.
 use Rattle.std.specs.Prelude.{ℕ, Bool, []}
-use Rattle.column.specs.declared.Found.{Found}
+use Rattle.column.specs.Found.{Found}
 use Rattle.render.specs.declared.types.Options.{Options}
 use Rattle.shaper.specs.Shaper.{view_with}
 use Rattle.row_shape.specs.Row.{separator}

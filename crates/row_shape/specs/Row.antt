@@ -1,12 +1,12 @@
 -- The row call: the shape that it gives, cell by cell, and the shaper after it.
-use Rattle.std.specs.Prelude.{ℕ, zero, suc, ◌-◌, Bool, false, not, ◌&&◌, List, [], ◌∷◌, ◌++◌, ltb, leb, eqb, length, replicate}
+use Rattle.std.specs.Prelude.{ℕ, zero, suc, ◌-◌, Bool, false, not, ◌&&◌, List, [], ◌∷◌, ◌++◌, ltb, leb, eqb, length, replicate, Some, unwrap_or}
+use Rattle.std.specs.List.{list_any}
 use Rattle.column.specs.declared.Column.{Column}
-use Rattle.column.specs.declared.Found.{Found}
-use Rattle.column.specs.declared.Found.TheVariants.{At}
-use Rattle.column.specs.Columns.{column_limit, is_parent, find, or_else, at, reset}
+use Rattle.column.specs.Found.{Found}
+use Rattle.column.specs.Columns.{column_limit, is_parent, find, at, reset}
 use Rattle.render.specs.declared.render.Ancestor.{Ancestor as Entry}
 use Rattle.render.specs.declared.types.RowShape.{RowShape}
-use Rattle.render.specs.Entries.{is_anonymous, any_of, is_too_many}
+use Rattle.render.specs.Entries.{is_anonymous, is_too_many}
 use Rattle.render.specs.Lines.{blank_cell}
 use Rattle.links.specs.declared.Drawn.{Drawn}
 use Rattle.links.specs.declared.AncestorColumnBounds.{AncestorColumnBounds}
@@ -29,18 +29,18 @@ shape_at v n es p =
     let w : ℕ = length p.walked in
     let draws : ℕ → Drawn = λ i. kind_of (draws_at p.up c es p.bare i) in
     let r : AncestorColumnBounds = bounds_of (cells_from draws 0 w) c in
-    let s : Swap = record { given_up = p.up; was_direct = is_parent (at p.bare (or_else p.up c)) } in
+    let s : Swap = record { given_up = p.up; was_direct = is_parent (at p.bare (unwrap_or p.up c)) } in
     record {
       node = n;
       merge = ltb 1 (length es);
-      separator_line = separator v (find n v.columns) c (any_of is_anonymous es);
+      separator_line = separator v (find n v.columns) c (list_any is_anonymous es);
       style = v.style;
       is_head = head (find n v.columns) v.columns;
       is_root = eqb (length es) 0;
       node_column = c;
       width = w;
       link_line = linked r s;
-      term_line = any_of is_anonymous es;
+      term_line = list_any is_anonymous es;
       cells = cells_from (λ i. cell_of (linked r s) r s i (draws i) (at p.bare i) (at p.settled i)) 0 w ++ replicate (column_limit - w) blank_cell;
     }
 
@@ -79,7 +79,7 @@ columns_after v p = reset (solid_once v.style.dash_style p.settled)
 
 -- the shaper after a row of the node n: "Every occupied column now also carries the node" (02, R-3)
 abbrev pub row_after : View → ℕ → Placed → View
-row_after v n p = view_after v (columns_after v p) (cells_from (origin_after n p v.origins) 0 (length (columns_after v p))) (At p.column)
+row_after v n p = view_after v (columns_after v p) (cells_from (origin_after n p v.origins) 0 (length (columns_after v p))) (Some p.column)
 
 -- "A refusal gives its number, .. a shape without cells .., and changes no state"
 abbrev pub row_answer : ℕ → View → ℕ → List Entry → Placed → RowReply

@@ -1,83 +1,62 @@
 // The row call by value, after graph_to_row_shape.rs.
 #![tactic(auto)]
 
-ghost use Rattle.std.specs.Prelude.{◌≡◌};
-ghost use Rattle.row_shape.specs.Row.{no_shape};
+ghost use Rattle.std.specs.Prelude.{◌≡◌, ◌≤◌, length};
+ghost use Rattle.column.specs.Columns.{live, trim};
 ghost use Rattle.row_shape.specs.Inner.{separator_with};
-ghost use Rattle.row_shape.specs.Promises.{Rows};
+ghost use Rattle.row_shape.specs.Promises.{row_answer_from, Rows};
 
 use cells::{cell, plain_cell, shown};
-use column::{COLUMN_LIMIT, Column, Found, Slot};
-use links::{AncestorColumnBounds, ParentColumn, Swap};
-use render::{ACCEPTED, Cell, Entries, NODE_LINE_TOO_WIDE, Options, RowShape, TOO_MANY_ENTRIES};
+use column::{COLUMN_LIMIT, Column, Slot};
+use links::{AncestorColumnBounds, Drawn, Swap};
+use render::{Cell, Entries, Options, Refusal, RowShape};
 use shaper::{Shaper, find_column};
+use std::mem;
 
-// What the row call gives: the refusal's number, the shape, and the shaper after it.
+// What an accepted row call gives: the shape, and the shaper after it.
 #[derive(Clone, Copy)]
-pub struct RowAnswer {
-    pub refusal: u8,
+pub struct NextRow {
     pub shape: RowShape,
     pub shaper: Shaper,
-}
-
-// A shape without cells.
-fn no_shape() -> RowShape
-    ensures { result ≡ no_shape }
-{
-    let style = shaper::default_style();
-    let blank = Cell::blank();
-    let cells = [blank; COLUMN_LIMIT];
-    RowShape {
-        node: 0,
-        merge: false,
-        separator_line: false,
-        style,
-        is_head: false,
-        is_root: false,
-        node_column: 0,
-        width: 0,
-        link_line: false,
-        term_line: false,
-        cells,
-    }
-}
-
-// A row that is refused.
-fn refused_row(shaper: Shaper, refusal: u8) -> RowAnswer
-    ensures { result ≡ record { refusal = refusal; shape = no_shape; shaper = shaper } }
-{
-    let shape = no_shape();
-    RowAnswer {
-        refusal,
-        shape,
-        shaper,
-    }
 }
 
 // Whether the row needs a separator from the row before.
 fn separator_line(
     options: Options,
-    previous: Found,
-    existing: Found,
+    previous: Option<usize>,
+    existing: Option<usize>,
     column: usize,
     need_term_line: bool,
 ) -> bool
     ensures { result ≡ separator_with options previous existing column need_term_line }
 {
-    let Found::Nothing = existing else {
-        return false;
-    };
-    let stagger = options.stagger_consecutive_disconnected_nodes;
-    (options.min_row_height <= 1) & (!stagger & (links::is_at(previous, column) & !need_term_line))
+    existing.is_none()
+        && options.min_row_height <= 1
+        && !options.stagger_consecutive_disconnected_nodes
+        && previous == Some(column)
+        && !need_term_line
+}
+
+// The number of columns without the Empty ones at the end, counted down as `reset` in column.rs pops them: a chain from the back would
+// count what goes and take it away.
+fn trimmed(slots: &[Slot]) -> usize
+    ensures within { result ≤ length slots.now }
+    ensures left { live result slots.now ≡ trim (live (length slots.now) slots.now) }
+{
+    let mut count = slots.len();
+    while 0 < count && slots[count - 1].column.is_empty() {
+        count -= 1;
+    }
+    count
 }
 
 // The row call: the next node as a row shape. One function owns the slots and who draws in them, and walks the entries and the cells: a
 // function that was given them and gave them back would copy the arrays several times for each row.
-pub fn next_row_shape(shaper: Shaper, node: u32, entries: Entries) -> RowAnswer
-    ensures { Rows shaper node entries result }
+pub fn next_row_shape(shaper: Shaper, node: u32, entries: Entries) -> Result<NextRow, Refusal>
+    ensures { Rows shaper node entries (row_answer_from shaper result) }
 {
     if entries.are_too_many() {
-        return refused_row(shaper, TOO_MANY_ENTRIES);
+        return Err(Refusal::TooManyEntries);
     }
     let options = shaper.options;
     let previous = shaper.previous_node_column;
@@ -85,119 +64,79 @@ pub fn next_row_shape(shaper: Shaper, node: u32, entries: Entries) -> RowAnswer
     let held = shaper.count;
     let live = column::live_count(held);
     let existing = column::find(slots, held, node);
-    let Found::At(column) = find_column(slots, held, options, previous, existing) else {
-        return refused_row(shaper, NODE_LINE_TOO_WIDE);
+    let Some(column) = find_column(slots, held, options, previous, existing) else {
+        return Err(Refusal::NodeLineTooWide);
     };
-    let node_slot = slots[column];
-    let node_column = node_slot.column;
-    let is_head = shaper::is_head(existing, node_column);
+    let is_head = shaper::is_head(existing, slots[column].column);
     // the node's column becomes Empty, and so does a placeholder before a new last one
-    let beside = placing::placeholder(live, column);
-    slots[beside] = Slot::empty();
+    slots[placing::placeholder(live, column)] = Slot::empty();
     slots[column] = Slot::empty();
     let mut count = column::count_with(live, column);
     // then entries go in order
-    let nobody = ParentColumn::nobody();
-    let mut parents = [nobody; COLUMN_LIMIT];
-    let mut parent_column: usize = 0;
+    let mut parents = [Drawn::Nobody; COLUMN_LIMIT];
+    let mut parent_column = 0;
     let mut need_term_line = false;
     let n = entries.count;
-    let mut i: usize = 0;
-    while i < n {
-        let entry = entries.list[i];
+    for entry in &entries.list[..n] {
         let ancestor = entry.ancestor;
         let index = placing::parent_column(slots, count, column, ancestor);
         if COLUMN_LIMIT <= index {
-            return refused_row(shaper, NODE_LINE_TOO_WIDE);
+            return Err(Refusal::NodeLineTooWide);
         }
-        let slot = slots[index];
-        slots[index] = placing::entered(slot, index, count, ancestor, node);
+        slots[index] = placing::entered(slots[index], index, count, ancestor, node);
         count = column::count_with(count, index);
-        parents[index] = ParentColumn::drawn_by(ancestor);
+        parents[index] = Drawn::by(ancestor);
         parent_column = index;
-        need_term_line = need_term_line | ancestor.is_anonymous();
-        i += 1;
+        need_term_line |= ancestor.is_anonymous();
     }
     // a single entry whose column lies right of the node swaps columns with it; else the node's changes places with itself
     let given_up = placing::given_up(n, parent_column, column);
-    let other = placing::or_else(given_up, column);
-    let own_slot = slots[column];
-    let other_slot = slots[other];
-    let was = shaper.slots[other];
-    let old = placing::column_before(was, other, live, column);
+    let other = given_up.unwrap_or(column);
+    let old = placing::column_before(shaper.slots[other], other, live, column);
     let swap = Swap {
         given_up,
         was_direct: old.is_parent(),
     };
-    slots[column] = other_slot;
-    slots[other] = own_slot;
-    let drawn_in = parents[other];
-    parents[other] = nobody;
-    parents[column] = drawn_in;
+    slots.swap(column, other);
+    parents[column] = mem::replace(&mut parents[other], Drawn::Nobody);
     let bounds = AncestorColumnBounds::new(parents, count, column);
     let need_link_line = bounds.need_link_line(swap);
+    // here and below several arrays go side by side, each by its place
     // each cell as if nothing of the row reached it, then those between the row's outermost columns with their marks
     let parent = plain_cell(need_link_line, Column::Parent(0));
     let ancestor = plain_cell(need_link_line, Column::Ancestor(0));
     let blank = Cell::blank();
     let mut cells = [blank; COLUMN_LIMIT];
-    let mut p: usize = 0;
-    while p < count {
-        let shown_slot = slots[p];
-        let shown_column = shown_slot.column;
-        cells[p] = shown(shown_column, parent, ancestor, blank);
-        p += 1;
+    for p in 0..count {
+        cells[p] = shown(slots[p].column, parent, ancestor, blank);
     }
     let end = bounds.reach_end(swap, count);
-    let mut k = bounds.reach_start(swap);
-    while k < end {
-        let bare = shaper.slots[k];
-        let bare_column = placing::column_before(bare, k, live, column);
-        let settled = slots[k];
-        let settled_column = settled.column;
-        let met = parents[k];
-        let drawn = met.drawn;
-        let plain = cells[k];
+    for k in bounds.reach_start(swap)..end {
+        let bare = placing::column_before(shaper.slots[k], k, live, column);
         cells[k] = cell(
             need_link_line,
             bounds,
             swap,
             k,
-            drawn,
-            bare_column,
-            settled_column,
-            plain,
+            parents[k],
+            bare,
+            slots[k].column,
+            cells[k],
         );
-        k += 1;
     }
     let style = options.graph_row_shape_style;
     let separator_line = separator_line(options, previous, existing, column, need_term_line);
     // what ends the row: every column as it is after it, into fresh slots; then Empty columns at the end go
-    let dash_style = style.dash_style;
-    let empty = Slot::empty();
-    let fresh = [empty; COLUMN_LIMIT];
-    let previous_node_column = Found::At(column);
     let mut next = Shaper {
-        slots: fresh,
+        slots: [Slot::empty(); COLUMN_LIMIT],
         count: 0,
-        previous_node_column,
+        previous_node_column: Some(column),
         options,
     };
-    let mut at: usize = 0;
-    while at < count {
-        let settled_slot = slots[at];
-        next.slots[at] = placing::ended(settled_slot, dash_style);
-        at += 1;
+    for at in 0..count {
+        next.slots[at] = placing::ended(slots[at], style.dash_style);
     }
-    while 0 < at {
-        let last = next.slots[at - 1];
-        let last_column = last.column;
-        if !last_column.is_empty() {
-            break;
-        }
-        at -= 1;
-    }
-    next.count = at;
+    next.count = trimmed(&next.slots[..count]);
     let shape = RowShape {
         node,
         merge: 1 < n,
@@ -211,9 +150,8 @@ pub fn next_row_shape(shaper: Shaper, node: u32, entries: Entries) -> RowAnswer
         term_line: need_term_line,
         cells,
     };
-    RowAnswer {
-        refusal: ACCEPTED,
+    Ok(NextRow {
         shape,
         shaper: next,
-    }
+    })
 }

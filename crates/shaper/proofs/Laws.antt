@@ -5,24 +5,22 @@ use mathlib.Core.Bool.{false}
 use mathlib.Core.List.{List}
 use native.Mathlib.Omega.{arith}
 use lib.ListN.{length, get_or, set}
-use borrow.Author.Tests.{le-leb, lt-leb, lt-ltb, le-ltb}
+use borrow.Author.Tests.{le-leb, lt-leb}
 use Rattle.column.specs.declared.Column.{Column}
 use Rattle.column.specs.declared.Column.TheVariants.{Empty, Blocked, Reserved, Ancestor, Parent}
-use Rattle.column.specs.declared.Found.TheVariants.{At, Nothing}
+use Rattle.std.specs.Prelude.{Some, None, unwrap_or}
 use Rattle.column.specs.declared.Slot.{Slot}
-use Rattle.column.specs.Columns.{column_limit, is_empty, holds, find, live, first, or_else, vacant, put, started_by, counted, empty_slot}
+use Rattle.column.specs.Found.{Found}
+use Rattle.column.specs.Columns.{column_limit, is_empty, holds, find, live, first, vacant, put, started_by, counted, empty_slot}
 use Rattle.slices.specs.Lists.{put_with}
 use Rattle.slices.proofs.Front.{length_front}
-use Rattle.column.specs.declared.Started.TheVariants.{NotWaiting}
 use Rattle.column.proofs.Laws.{column_of, first_below, live_at, live-put, origins-at, origins-put}
 use Rattle.render.specs.declared.render.Entries.{Entries}
 use Rattle.render.specs.Entries.{entry_limit, listed, is_too_many}
-use Rattle.render.specs.Refusals.{not_refused, height_above_limit, no_column_left}
+use Rattle.render.specs.Refusals.{no_column_left}
 use Rattle.shaper.specs.declared.Shaper.{Shaper}
-use Rattle.shaper.specs.Shaper.{height_limit, view_of, View, fresh, refused_options, Fresh, with_columns, reserve, reserved_slot, Reserves, origin}
-use Rattle.column.specs.declared.Found.{Found}
+use Rattle.shaper.specs.Shaper.{view_of, View, with_columns, reserve, reserved_slot, Reserves, origin}
 use Rattle.render.specs.declared.render.Entry.{Entry}
-use Rattle.render.specs.declared.types.Options.{Options}
 use Rattle.render.proofs.EntryLaws.{few-count}
 
 -- an array of slots has 64, by what the prover knows of an array that is a struct's field
@@ -37,42 +35,29 @@ entries-long l e = e
 pub few : (es : Entries) → is_too_many (listed es) ≡ false → es.count ≤ entry_limit
 few = few-count
 
--- ---- the new shaper call
-module _ (o : Options) where
-  pub new-refused : (s : Shaper) → height_limit < o.min_row_height → s ≡ fresh refused_options → Fresh o (record { refusal = height_above_limit; shaper = s })
-  new-refused s h e =
-      record {
-        reply = rw (e, lt-ltb height_limit o.min_row_height h);
-        whole = rw e;
-        options = λ z. absurd (omega arith);
-      }
-
-  pub new-done : (s : Shaper) → o.min_row_height ≤ height_limit → s ≡ fresh o → Fresh o (record { refusal = not_refused; shaper = s })
-  new-done s h e = record { reply = rw (e, le-ltb height_limit o.min_row_height h); whole = rw e; options = λ z. rw e }
-
 -- ---- the reserving call
 module _ (v : View) (n : ℕ) where
   abbrev cs : List Column
   cs = v.columns
 
-  pub reserve-held : (i : ℕ) → find n cs ≡ At i → reserve v n ≡ record { refusal = 0; view = v }
+  pub reserve-held : (i : ℕ) → find n cs ≡ Some i → reserve v n ≡ record { refusal = 0; view = v }
   unfolding reserve
   reserve-held i e = rw e
 
-  module _ (e : find n cs ≡ Nothing) where
-    full : (f : Found) → first is_empty cs ≡ f → length cs ≤ column_limit → column_limit ≤ or_else f (length cs) → reserve v n ≡ record { refusal = no_column_left; view = v }
+  module _ (e : find n cs ≡ None) where
+    full : (f : Found) → first is_empty cs ≡ f → length cs ≤ column_limit → column_limit ≤ unwrap_or f (length cs) → reserve v n ≡ record { refusal = no_column_left; view = v }
     unfolding reserve
-    full (At i) q h g = absurd (omega (arith, first_below is_empty cs i q))
-    full Nothing q h g = rw (e, q, le-leb column_limit (length cs) g)
+    full (Some i) q h g = absurd (omega (arith, first_below is_empty cs i q))
+    full None q h g = rw (e, q, le-leb column_limit (length cs) g)
 
     pub reserve-full : length cs ≤ column_limit → column_limit ≤ vacant cs → reserve v n ≡ record { refusal = no_column_left; view = v }
     reserve-full = full (first is_empty cs) refl
 
-    room : (f : Found) → first is_empty cs ≡ f → or_else f (length cs) < column_limit
-        → reserve v n ≡ record { refusal = 0; view = with_columns v (put cs (or_else f (length cs)) (Reserved n)) (put_with 0 v.origins (or_else f (length cs)) 0) }
+    room : (f : Found) → first is_empty cs ≡ f → unwrap_or f (length cs) < column_limit
+        → reserve v n ≡ record { refusal = 0; view = with_columns v (put cs (unwrap_or f (length cs)) (Reserved n)) (put_with 0 v.origins (unwrap_or f (length cs)) 0) }
     unfolding reserve
-    room (At i) q g = rw (e, q)
-    room Nothing q g = rw (e, q, lt-leb column_limit (length cs) g)
+    room (Some i) q g = rw (e, q)
+    room None q g = rw (e, q, lt-leb column_limit (length cs) g)
 
     pub reserve-room : vacant cs < column_limit → reserve v n ≡ record { refusal = 0; view = with_columns v (put cs (vacant cs) (Reserved n)) (put_with 0 v.origins (vacant cs) 0) }
     reserve-room = room (first is_empty cs) refl
@@ -80,15 +65,15 @@ module _ (v : View) (n : ℕ) where
     pub vacant-within : vacant cs ≤ length cs
     vacant-within = within (first is_empty cs) refl
       where
-        within : (f : Found) → first is_empty cs ≡ f → or_else f (length cs) ≤ length cs
-        within (At i) q = omega (arith, first_below is_empty cs i q)
-        within Nothing q = omega arith
+        within : (f : Found) → first is_empty cs ≡ f → unwrap_or f (length cs) ≤ length cs
+        within (Some i) q = omega (arith, first_below is_empty cs i q)
+        within None q = omega arith
 
 module _ (s : Shaper) (n : ℕ) where
   abbrev live-columns : List Column
   live-columns = live s.count s.slots
 
-  pub held-done : (i : ℕ) → find n live-columns ≡ At i → Reserves s n (record { refusal = 0; shaper = s })
+  pub held-done : (i : ℕ) → find n live-columns ≡ Some i → Reserves s n (record { refusal = 0; shaper = s })
   held-done i e =
       record {
         reply = sym (reserve-held (view_of s) n i e);
@@ -99,7 +84,7 @@ module _ (s : Shaper) (n : ℕ) where
         options = refl;
       }
 
-  module _ (e : find n live-columns ≡ Nothing) (long : length s.slots ≡ column_limit) where
+  module _ (e : find n live-columns ≡ None) (long : length s.slots ≡ column_limit) where
     pub full-done : column_limit ≤ vacant live-columns → Reserves s n (record { refusal = no_column_left; shaper = s })
     full-done h =
         record {
@@ -146,10 +131,7 @@ reads-counted (Ancestor n) o = refl
 reads-counted (Parent n) o = refl
 
 module _ (s : Shaper) (n : ℕ) where
-  pub not-waiting : find n (live s.count s.slots) ≡ Nothing → NotWaiting ≡ origin (view_of s) n
-  not-waiting e = rw e
-
-  pub started-found : (i : ℕ) → find n (live s.count s.slots) ≡ At i → length s.slots ≡ column_limit
+  pub started-found : (i : ℕ) → find n (live s.count s.slots) ≡ Some i → length s.slots ≡ column_limit
       → started_by (get_or s.slots i empty_slot).column (get_or s.slots i empty_slot).origin ≡ origin (view_of s) n
   started-found i e long =
       let h : i < length (live s.count s.slots) = first_below (holds n) (live s.count s.slots) i e in
@@ -158,5 +140,5 @@ module _ (s : Shaper) (n : ℕ) where
       rw (e, live_at s.count s.slots i k l, origins-at s.count s.slots i k l) (sym (reads-counted (get_or s.slots i empty_slot).column (get_or s.slots i empty_slot).origin))
 
   -- the index that was found is one of the array's
-  pub found_within : (i : ℕ) → find n (live s.count s.slots) ≡ At i → length s.slots ≡ column_limit → i < column_limit
+  pub found_within : (i : ℕ) → find n (live s.count s.slots) ≡ Some i → length s.slots ≡ column_limit → i < column_limit
   found_within i e long = omega (arith, first_below (holds n) (live s.count s.slots) i e, length_front column_of s.count s.slots)

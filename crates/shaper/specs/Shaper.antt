@@ -1,21 +1,20 @@
 -- The shaper as document 01 has it, and what the new shaper call and the reserving call give.
-use Rattle.std.specs.Prelude.{ℕ, zero, suc, ◌≤◌, min, ◌≡◌, Bool, true, false, ◌&&◌, List, [], ◌∷◌, ltb, leb, length, replicate, set}
+use Rattle.std.specs.Prelude.{ℕ, zero, suc, ◌≤◌, min, ◌≡◌, Bool, true, false, ◌&&◌, List, [], ◌∷◌, ltb, leb, length, replicate, set, Some, None, Result, Ok, Err}
 use Rattle.slices.specs.Lists.{put_with}
 use Rattle.column.specs.declared.Column.{Column}
 use Rattle.column.specs.declared.Column.TheVariants.{Reserved}
 use Rattle.column.specs.declared.Slot.{Slot}
-use Rattle.column.specs.declared.Found.{Found}
-use Rattle.column.specs.declared.Found.TheVariants.{At, Nothing}
 use Rattle.column.specs.declared.Started.{Started}
 use Rattle.column.specs.declared.Started.TheVariants.{NotWaiting}
+use Rattle.column.specs.Found.{Found}
 use Rattle.column.specs.Columns.{column_limit, is_empty, first, find, vacant, at, put, live, empty_slot, started_by, origins, origin_at}
 use Rattle.render.specs.declared.types.DashStyle.TheVariants.{Persistent}
 use Rattle.render.specs.declared.types.LinkLinePlacement.TheVariants.{Top}
 use Rattle.render.specs.declared.types.Style.{Style}
 use Rattle.render.specs.declared.types.Options.{Options}
 use Rattle.shaper.specs.declared.Shaper.{Shaper}
-use Rattle.shaper.specs.declared.Answer.{Answer}
-use Rattle.render.specs.Refusals.{height_above_limit, no_column_left, Check, ◌when◌, refusal}
+use Rattle.render.specs.declared.refusals.Refusal.{Refusal}
+use Rattle.render.specs.Refusals.{not_refused, height_above_limit, no_column_left, Check, ◌when◌, refusal, number}
 
 -- "minimum row height above 16" (01, the table's row for new shaper)
 abbrev pub height_limit : ℕ
@@ -47,6 +46,16 @@ view_with cs os p o =
 abbrev pub view_of : Shaper → View
 view_of s = view_with (live s.count s.slots) (origins s.count s.slots) s.previous_node_column s.options
 
+-- what a call that only changes the shaper gives: the refusal's number, 0 for none, and the shaper after it
+pub record Answer : Type 0 where
+  pub refusal : ℕ
+  pub shaper : Shaper
+
+-- the result of a call, as the answer: a refused call gives its number, and the other shaper
+abbrev pub answer_from : Shaper → Result Shaper Refusal → Answer
+answer_from s (Ok t) = record { refusal = not_refused; shaper = t }
+answer_from s (Err e) = record { refusal = number e; shaper = s }
+
 -- what a call gives: the refusal's number, 0 for none, and the shaper after it
 pub record Reply : Type 0 where
   pub refusal : ℕ
@@ -69,7 +78,7 @@ new_checks o = (height_above_limit when ltb height_limit o.min_row_height) ∷ [
 
 -- a shaper without columns: "fresh shaper" where the new shaper call has just given it (01, "Which ids wait")
 abbrev pub fresh : Options → Shaper
-fresh o = record { slots = replicate column_limit empty_slot; count = 0; previous_node_column = Nothing; options = o }
+fresh o = record { slots = replicate column_limit empty_slot; count = 0; previous_node_column = None; options = o }
 
 -- "height 0, no staggering, Persistent, Top" (01, "Where a call turns back")
 abbrev pub refused_options : Options
@@ -88,8 +97,8 @@ new_shaper o = answer (refusal (new_checks o)) (view_of (fresh refused_options))
 
 -- whether nothing was found
 abbrev pub is_nothing : Found → Bool
-is_nothing (At i) = false
-is_nothing Nothing = true
+is_nothing (Some i) = false
+is_nothing None = true
 
 -- "id not held, no Empty column, 64 columns" (01, the table's row for reserving)
 abbrev pub reserve_checks : ℕ → List Column → List Check
@@ -97,8 +106,8 @@ reserve_checks n cs = (no_column_left when (is_nothing (find n cs) && (is_nothin
 
 -- "an id already held changes nothing, else it becomes Reserved in the first Empty column or a new last one" (01, point 3)
 abbrev pub reserved_in : Found → ℕ → List Column → List Column
-reserved_in (At i) n cs = cs
-reserved_in Nothing n cs = put cs (vacant cs) (Reserved n)
+reserved_in (Some i) n cs = cs
+reserved_in None n cs = put cs (vacant cs) (Reserved n)
 
 -- the columns after a reservation of n
 abbrev pub reserved : ℕ → List Column → List Column
@@ -106,8 +115,8 @@ reserved n cs = reserved_in (find n cs) n cs
 
 -- an id that a reservation makes wait has no origin: "a mark for none if only reserved" (02, R-3)
 abbrev pub reserved_origins_in : Found → List Column → List ℕ → List ℕ
-reserved_origins_in (At i) cs os = os
-reserved_origins_in Nothing cs os = put_with 0 os (vacant cs) 0
+reserved_origins_in (Some i) cs os = os
+reserved_origins_in None cs os = put_with 0 os (vacant cs) 0
 
 -- what the columns carry after a reservation of n
 abbrev pub reserved_origins : ℕ → List Column → List ℕ → List ℕ
@@ -129,8 +138,8 @@ reserve v n = answer (refusal (reserve_checks n v.columns)) v (with_columns v (r
 
 -- who started the line in a column that was found
 abbrev pub started_in : Found → List Column → List ℕ → Started
-started_in (At i) cs os = started_by (at cs i) (origin_at os i)
-started_in Nothing cs os = NotWaiting
+started_in (Some i) cs os = started_by (at cs i) (origin_at os i)
+started_in None cs os = NotWaiting
 
 -- "A query by id gives that node, none, or not waiting." (02, R-3)
 abbrev pub origin : View → ℕ → Started
@@ -153,7 +162,7 @@ reserved_slot n = record { column = Reserved n; origin = 0 }
 pub record Reserves (s : Shaper) (n : ℕ) (r : Answer) : Type 0 where
   pub reply : reply_of r ≡ reserve (view_of s) n
   pub refused : (r.refusal ≡ 0 → ⊥) → r.shaper ≡ s
-  pub held : (i : ℕ) → find n (view_of s).columns ≡ At i → r.shaper ≡ s
-  pub fits : find n (view_of s).columns ≡ Nothing → r.refusal ≡ 0 → r.shaper.count ≤ column_limit
-  pub taken : find n (view_of s).columns ≡ Nothing → r.refusal ≡ 0 → r.shaper.slots ≡ set s.slots (vacant (view_of s).columns) (reserved_slot n)
+  pub held : (i : ℕ) → find n (view_of s).columns ≡ Some i → r.shaper ≡ s
+  pub fits : find n (view_of s).columns ≡ None → r.refusal ≡ 0 → r.shaper.count ≤ column_limit
+  pub taken : find n (view_of s).columns ≡ None → r.refusal ≡ 0 → r.shaper.slots ≡ set s.slots (vacant (view_of s).columns) (reserved_slot n)
   pub options : r.shaper.options ≡ s.options

@@ -24,9 +24,7 @@ use Rattle.message.specs.Message.{message_limit, is_writable, all_of, lines_of}
 use Rattle.message.proofs.MessageLaws.{trim-length}
 use Rattle.output.specs.Output.{finish, text_of, TextView}
 use Rattle.text.specs.Text.{text_lines, text_after, drawn_checks, text_answer, TextReply, text_with, up_to_refusal, drawn_from, drawn_text}
-use Rattle.record.specs.declared.Outcome.{Outcome}
-use Rattle.record.specs.declared.Outcome.TheVariants.{Ready, Ended, Refused}
-use Rattle.record.specs.Record.{record_length, pieces, message_room, room_of, up_to_zero, RecordView, record_checks, outcome_of, outcome_record, next_record}
+use Rattle.record.specs.Record.{record_length, pieces, message_room, room_of, up_to_zero, RecordView, record_checks, Outcome, Ready, Ended, Refused, outcome_of, outcome_record, next_record}
 use Rattle.steps.specs.Steps.{refused_in, refused_line, ProgressView, program_options, beginning, next, StepReply, stopped, stepped, page_row, listing_row, on_record, page_step, listing_step}
 use Rattle.steps.specs.Files.{reads_of, step_by_step, page_room, listing_room, page_of, listing_of, calls_on, calls_from, calls_of, stop_on, stop_from, stop_of}
 use Rattle.steps.proofs.LineBytes.{line-is}

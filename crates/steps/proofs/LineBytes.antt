@@ -12,9 +12,6 @@ use Rattle.slices.proofs.OverLaws.{over-one, part-written, part_length}
 use Rattle.steps.specs.Steps.{decimal_in, most_digits, refused_word, record_words, refused_line, line_room, refused_in}
 
 -- ---- a number in decimal
-pub decimal-none : (k n : ℕ) → k ≡ 0 → decimal_in k n ≡ []
-decimal-none k n e = rw e refl
-
 pub decimal_digit : (k n : ℕ) → (k ≡ 0 → ⊥) → n < 10 → decimal_in k n ≡ (0x30 + n) ∷ []
 decimal_digit zero n z h = absurd (z refl)
 decimal_digit (suc k) n z h = rw (lt-ltb n 10 h) refl

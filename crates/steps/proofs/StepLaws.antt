@@ -1,61 +1,75 @@
 -- Laws of a step: what a record's row, drawn or refused, gives.
 use mathlib.Core.Path.{◌≡◌, refl, sym, ap, ap₂, ◌∙◌}
 use mathlib.Core.Bool.{Bool, true, false, cond, true≢false}
-use mathlib.Core.List.{List, [], ◌∷◌, map}
-use Prim.Native.Nat.{ℕ, zero, suc, ◌-◌, ◌≤◌}
-use mathlib.Core.Logic.{⊎_elim}
+use mathlib.Core.List.{List}
+use Prim.Native.Nat.{ℕ, zero, suc, ◌<◌, ◌≤◌}
 use native.Mathlib.Omega.{arith}
-use types.Run.{OneOf}
-use denote.Enum.Declared.{tag_of}
 use borrow.Author.Tests.{le-ltb, ne_eqb}
-use lib.Dec.{ltb}
-use lib.ListN.{length, take, drop, length-append, length-map}
+use lib.Dec.{ltb, lit≤}
+use lib.ListN.{length, take, drop}
 use lib.Seq.{take-append_seam}
 use Rattle.render.specs.declared.render.Ancestor.{Ancestor as Entry}
 use Rattle.render.specs.Entries.{listed}
 use Rattle.render.specs.Mark.{is_mark}
-use Rattle.render.specs.Refusals.{not_refused, mark_outside_span, output_shorter_than_lines, refusal}
-use Rattle.shaper.specs.declared.Answer.{Answer}
-use Rattle.shaper.specs.declared.Shaper.{Shaper}
-use Rattle.shaper.specs.Shaper.{View, Reply, view_of, fresh, Fresh}
-use Rattle.row_shape.specs.declared.RowAnswer.{RowAnswer}
+use Rattle.render.specs.declared.refusals.Refusal.{Refusal}
+use Rattle.render.specs.declared.refusals.Refusal.TheVariants.{HeightAboveLimit, NoColumnLeft, TooManyEntries, NodeLineTooWide, MarkOutsideSpan, MessageTooLong, MessageByteNotWritable, OutputShorterThanLines, RecordCutShort, TooManyParents, KindAboveLimit, ShapeTooWide, IdNotBelowPrevious, ParentNotBelowId, UnequalRecords, OutputShorterThanResult, WidthOutsideSpan, TooFewCellsLeft, GlyphByteNotPrintable, TooManyRecords, TooManyReached, NoSuchRecord, ByteNotReadable, ByteNotAGlyph}
+use Rattle.render.specs.Refusals.{not_refused, output_shorter_than_lines, refusal, number as number_of}
+use Rattle.shaper.specs.Shaper.{View, view_of}
+use Rattle.row_shape.specs.declared.NextRow.{NextRow}
 use Rattle.row_shape.specs.Row.{RowReply, row}
-use Rattle.row_shape.specs.Promises.{Rows}
+use Rattle.row_shape.specs.Promises.{RowAnswer, row_answer_from, Rows}
 use Rattle.row_shape.proofs.RowFits.{row_fits}
 use Rattle.column.specs.Columns.{column_limit}
 use Rattle.glyphs.specs.declared.Renderer.{Renderer}
 use Rattle.glyphs.specs.declared.Renderer.TheVariants.{Curved}
 use Rattle.glyphs.specs.Cells.{glyphs_of}
 use Rattle.slices.specs.Joins.{over}
-use Rattle.prefix_lines.specs.declared.Written.{Written}
 use Rattle.prefix_lines.specs.PrefixLines.{Answer as LinesAnswer, answer_of, answered}
 use Rattle.prefix_lines.specs.Listing.{listing_bytes, listing}
-use Rattle.output.specs.Output.{TextView, new_text, finish, text_view_of, text_of}
-use Rattle.text.specs.declared.graph_text_renderer.TextAnswer.{TextAnswer}
+use Rattle.output.specs.Output.{TextView, finish, text_view_of, text_of}
+use Rattle.text.specs.declared.graph_text_renderer.NextText.{NextText}
 use Rattle.message.specs.Message.{lines_of}
 use Rattle.text.specs.Text.{text_lines, text_after, text_checks, TextReply, text_answer, text_with, text}
-use Rattle.text.specs.Promises.{text_reply_of, Texts}
+use Rattle.text.specs.Promises.{TextAnswer, text_answer_from, text_reply_of, Texts}
 use Rattle.record.specs.declared.Record.{Record}
-use Rattle.record.specs.declared.Outcome.{Outcome}
-use Rattle.record.specs.declared.Outcome.TheVariants.{Ready, Ended, Refused}
-use Rattle.record.specs.declared.RecordAnswer.{RecordAnswer}
-use Rattle.record.specs.Record.{RecordView, RecordReply, next_record, message_room}
-use Rattle.record.specs.contracts.Outcome.{the_type}
-use Rattle.record.specs.Promises.{record_view_of, Records}
+use Rattle.record.specs.Record.{RecordView, RecordReply, next_record}
+use Rattle.record.specs.Promises.{RecordAnswer, record_answer_from, record_view_of, Records}
+use Rattle.std.specs.Prelude.{Result, Ok, Err, Some}
 use Rattle.steps.specs.declared.Progress.{Progress}
 use Rattle.steps.specs.declared.Step.{Step}
-use Rattle.steps.specs.Steps.{refused_in, ProgressView, program_options, StepReply, stopped, stepped, next, page_row, listing_row, on_record}
-use Rattle.steps.specs.Promises.{progress_view_of, fresh_text, Begins, Steps}
-use Rattle.steps.specs.Inner.{undrawn}
+use Rattle.steps.specs.Steps.{refused_in, ProgressView, StepReply, stopped, stepped, next, page_row, listing_row, on_record}
+use Rattle.steps.specs.Promises.{progress_view_of, Steps}
+use Rattle.steps.specs.Inner.{DrawsOrRefuses}
 
--- ---- what a program begins with
-pub begins : (a : Answer) → Fresh program_options a → Begins (record { shaper = a.shaper; state = fresh_text; number = 0 })
-begins a f =
-    let z : a.refusal ≡ 0 = ap (λ (r : Reply). r.refusal) f.reply in
-    record {
-      reply = ap (λ (r : Reply). record { view = r.view; text = new_text; number = 0 }) f.reply;
-      whole = ap (λ (s : Shaper). record { shaper = s; state = fresh_text; number = 0 }) (f.whole ∙ ap fresh (f.options z));
-    }
+-- no refusal has the number of none
+positive : (e : Refusal) → 0 < number_of e
+positive HeightAboveLimit = lit≤ tt
+positive NoColumnLeft = lit≤ tt
+positive TooManyEntries = lit≤ tt
+positive NodeLineTooWide = lit≤ tt
+positive MarkOutsideSpan = lit≤ tt
+positive MessageTooLong = lit≤ tt
+positive MessageByteNotWritable = lit≤ tt
+positive OutputShorterThanLines = lit≤ tt
+positive RecordCutShort = lit≤ tt
+positive TooManyParents = lit≤ tt
+positive KindAboveLimit = lit≤ tt
+positive ShapeTooWide = lit≤ tt
+positive IdNotBelowPrevious = lit≤ tt
+positive ParentNotBelowId = lit≤ tt
+positive UnequalRecords = lit≤ tt
+positive OutputShorterThanResult = lit≤ tt
+positive WidthOutsideSpan = lit≤ tt
+positive TooFewCellsLeft = lit≤ tt
+positive GlyphByteNotPrintable = lit≤ tt
+positive TooManyRecords = lit≤ tt
+positive TooManyReached = lit≤ tt
+positive NoSuchRecord = lit≤ tt
+positive ByteNotReadable = lit≤ tt
+positive ByteNotAGlyph = lit≤ tt
+
+some-number : (e : Refusal) → number_of e ≡ 0 → ⊥
+some-number e h = omega (arith, positive e, h)
 
 -- ---- what a text call's definition says of a refusal and of what was written
 module _ (v : View) (t : TextView) (q : Renderer) (n : ℕ) (es : List Entry) (mark : ℕ) (message out : List ℕ) where
@@ -108,7 +122,7 @@ module _ (p : Progress) (d : Record) (out : List ℕ) (m : List ℕ) (same : m �
   refusal_is : page.refusal ≡ g.refusal
   refusal_is = sym (ap (λ (r : TextReply). r.refusal) replied)
 
-  pub page-out : (g.refusal ≡ 0 → ⊥) → after ≡ out
+  page-out : (g.refusal ≡ 0 → ⊥) → after ≡ out
   page-out z =
       ap (λ (r : TextReply). r.output) replied
       ∙ refused-output (view_of p.shaper) (text_view_of p.state) Curved d.id (listed d.entries) d.mark (take d.message_length d.message) out (λ e. z (sym refusal_is ∙ e))
@@ -117,12 +131,7 @@ module _ (p : Progress) (d : Record) (out : List ℕ) (m : List ℕ) (same : m �
   stops zero e z = absurd (z refl)
   stops (suc k) e z = rw (refusal_is, e) refl
 
-  pub page-stops : (g.refusal ≡ 0 → ⊥) → (last : List ℕ) (r : Step)
-      → Steps (stopped (progress_view_of p) (refused_in after g.refusal p.number)) p after last r
-      → Steps (page_row (progress_view_of p) (record_view_of d) out) p out last r
-  page-stops z last r h = rw (stops g.refusal refl z) (rw (page-out z) at h)
-
-  pub page-goes : (k : ℕ) → k ≡ next p.number → g.refusal ≡ 0
+  page-goes : (k : ℕ) → k ≡ next p.number → g.refusal ≡ 0
       → Steps (page_row (progress_view_of p) (record_view_of d) out) p out after
       (record { length = g.length; goes_on = true; progress = record { shaper = g.shaper; state = g.state; number = k } })
   page-goes k e z =
@@ -141,12 +150,22 @@ module _ (p : Progress) (d : Record) (out : List ℕ) (m : List ℕ) (same : m �
           ≡ record { written = take page.length page.output; goes_on = true; after = record { view = page.view; text = page.text; number = next p.number } }
       goes = rw (refusal_is ∙ z) refl
 
+-- the text call's result
+module _ (p : Progress) (d : Record) (out after : List ℕ) where
+  abbrev Called : Result NextText Refusal → Type 0
+  Called r = Texts p.shaper p.state Curved d.id d.entries d.mark (take d.message_length d.message) out after (text_answer_from p.shaper p.state r)
+
+  pub page-refused : (e : Refusal) → Called (Err e) → DrawsOrRefuses (page_row (progress_view_of p) (record_view_of d) out) p out after (Err e)
+  page-refused e u =
+      let z : number_of e ≡ 0 → ⊥ = some-number e in
+      (stops p d out (take d.message_length d.message) refl (text_answer_from p.shaper p.state (Err e)) after u (number_of e) refl z, page-out p d out (take d.message_length d.message) refl (text_answer_from p.shaper p.state (Err e)) after u z)
+
+  pub page-drawn : (n : NextText) (k : ℕ) → k ≡ next p.number → Called (Ok n)
+      → DrawsOrRefuses (page_row (progress_view_of p) (record_view_of d) out) p out after (Ok (record { length = n.length; next = Some (record { shaper = n.shaper; state = n.state; number = k }) }))
+  page-drawn n k e u = page-goes p d out (take d.message_length d.message) refl (text_answer_from p.shaper p.state (Ok n)) after u k e refl
+
 -- ---- the listing's row
 module _ (p : Progress) (d : Record) (out : List ℕ) where
-  pub mark-stops : is_mark d.mark ≡ false → (last : List ℕ) (r : Step) → Steps (stopped (progress_view_of p) (refused_in out mark_outside_span p.number)) p out last r
-      → Steps (listing_row (progress_view_of p) (record_view_of d) out) p out last r
-  mark-stops b last r h = rw b h
-
   module _ (b : is_mark d.mark ≡ true) (g : RowAnswer) (u : Rows p.shaper d.id d.entries g) where
     abbrev row_given : RowReply
     row_given = row (view_of p.shaper) d.id (listed d.entries)
@@ -157,17 +176,18 @@ module _ (p : Progress) (d : Record) (out : List ℕ) where
     row-refusal : row_given.refusal ≡ g.refusal
     row-refusal = sym (ap (λ (r : RowReply). r.refusal) rowed-is)
 
-    pub row-stops : (g.refusal ≡ 0 → ⊥) → (last : List ℕ) (r : Step) → Steps (stopped (progress_view_of p) (refused_in out g.refusal p.number)) p out last r
-        → Steps (listing_row (progress_view_of p) (record_view_of d) out) p out last r
-    row-stops z last r h = go g.refusal refl z h
+    row-stops : (g.refusal ≡ 0 → ⊥) → listing_row (progress_view_of p) (record_view_of d) out ≡ stopped (progress_view_of p) (refused_in out g.refusal p.number)
+    row-stops z = go g.refusal refl z
       where
-        go : (k : ℕ) → g.refusal ≡ k → (k ≡ 0 → ⊥) → Steps (stopped (progress_view_of p) (refused_in out k p.number)) p out last r
-            → Steps (listing_row (progress_view_of p) (record_view_of d) out) p out last r
-        go zero e z h = absurd (z refl)
-        go (suc k) e z h = rw (b, row-refusal, e, ne_eqb (suc k) 0 z) h
+        go : (k : ℕ) → g.refusal ≡ k → (k ≡ 0 → ⊥) → listing_row (progress_view_of p) (record_view_of d) out ≡ stopped (progress_view_of p) (refused_in out k p.number)
+        go zero e z = absurd (z refl)
+        go (suc k) e z = rw (b, row-refusal, e, ne_eqb (suc k) 0 z) refl
 
     -- the row is accepted: what was written, or not
-    module _ (z : g.refusal ≡ 0) (w : Written) (after : List ℕ) (y : answer_of w after ≡ listing g.shape d.mark out) where
+    module _ (z : g.refusal ≡ 0) (w : Result ℕ Refusal) (after : List ℕ) (y : answer_of w after ≡ listing g.shape d.mark out) where
+      abbrev given : LinesAnswer
+      given = answer_of w after
+
       shape_is : g.shape ≡ row_given.shape
       shape_is = ap (λ (r : RowReply). r.shape) rowed-is
 
@@ -178,7 +198,7 @@ module _ (p : Progress) (d : Record) (out : List ℕ) where
       fits = rw shape_is (row_fits (view_of p.shaper) d.id (listed d.entries) (row-refusal ∙ z))
 
       -- the listing call refuses for want of room alone
-      listing-refusal : w.refusal ≡ cond (ltb (length out) (length bytes)) output_shorter_than_lines not_refused
+      listing-refusal : given.refusal ≡ cond (ltb (length out) (length bytes)) output_shorter_than_lines not_refused
       listing-refusal = ap (λ (a : LinesAnswer). a.refusal) y ∙ rw (b, le-ltb column_limit g.shape.width fits) (number (ltb (length out) (length bytes)))
         where
           number : (c : Bool) → (answered (cond c output_shorter_than_lines not_refused) bytes out).refusal ≡ cond c output_shorter_than_lines not_refused
@@ -186,7 +206,7 @@ module _ (p : Progress) (d : Record) (out : List ℕ) where
           number false = refl
 
       step_is : listing_row (progress_view_of p) (record_view_of d) out
-          ≡ stepped w.refusal (progress_view_of p) out bytes (view_of g.shaper) (text_view_of p.state)
+          ≡ stepped given.refusal (progress_view_of p) out bytes (view_of g.shaper) (text_view_of p.state)
       step_is =
           rw (b, row-refusal, z)
           (ap (λ (r : RowReply). stepped (cond (ltb (length out) (length (listing_bytes r.shape d.mark))) output_shorter_than_lines not_refused) (progress_view_of p) out (listing_bytes r.shape d.mark) r.view (text_view_of p.state)) (sym rowed-is))
@@ -196,72 +216,36 @@ module _ (p : Progress) (d : Record) (out : List ℕ) where
       kept true f = refl
       kept false f = absurd (f refl)
 
-      pub room-stops : (w.refusal ≡ 0 → ⊥) → (last : List ℕ) (r : Step) → Steps (stopped (progress_view_of p) (refused_in after w.refusal p.number)) p after last r
-          → Steps (listing_row (progress_view_of p) (record_view_of d) out) p out last r
-      room-stops f last r h = rw step_is (go w.refusal refl f (rw same at h))
+      room-out : (given.refusal ≡ 0 → ⊥) → given.output ≡ out
+      room-out f =
+          ap (λ (a : LinesAnswer). a.output) y
+          ∙ rw (b, le-ltb column_limit g.shape.width fits) (kept (ltb (length out) (length bytes)) (λ e. f (listing-refusal ∙ e)))
+
+      room-stops : (given.refusal ≡ 0 → ⊥) → listing_row (progress_view_of p) (record_view_of d) out ≡ stopped (progress_view_of p) (refused_in out given.refusal p.number)
+      room-stops f = step_is ∙ go given.refusal f
         where
-          same : after ≡ out
-          same =
-              ap (λ (a : LinesAnswer). a.output) y
-              ∙ rw (b, le-ltb column_limit g.shape.width fits) (kept (ltb (length out) (length bytes)) (λ e. f (listing-refusal ∙ e)))
+          go : (k : ℕ) → (k ≡ 0 → ⊥) → stepped k (progress_view_of p) out bytes (view_of g.shaper) (text_view_of p.state) ≡ stopped (progress_view_of p) (refused_in out k p.number)
+          go zero f = absurd (f refl)
+          go (suc k) f = refl
 
-          go : (k : ℕ) → w.refusal ≡ k → (k ≡ 0 → ⊥) → Steps (stopped (progress_view_of p) (refused_in out k p.number)) p out last r
-              → Steps (stepped k (progress_view_of p) out bytes (view_of g.shaper) (text_view_of p.state)) p out last r
-          go zero e f h = absurd (f refl)
-          go (suc k) e f h = h
+-- the results of the row call and of the listing call
+module _ (p : Progress) (d : Record) (out : List ℕ) (b : is_mark d.mark ≡ true) where
+  pub row-refused : (e : Refusal) → Rows p.shaper d.id d.entries (row_answer_from p.shaper (Err e)) → DrawsOrRefuses (listing_row (progress_view_of p) (record_view_of d) out) p out out (Err e)
+  row-refused e u = (row-stops p d out b (row_answer_from p.shaper (Err e)) u (some-number e), refl)
 
-      pub listing-goes : (k : ℕ) → k ≡ next p.number → w.refusal ≡ 0
-          → Steps (listing_row (progress_view_of p) (record_view_of d) out) p out after
-          (record { length = w.length; goes_on = true; progress = record { shaper = g.shaper; state = p.state; number = k } })
-      listing-goes k e f =
-          let c : ltb (length out) (length bytes) ≡ false = room (ltb (length out) (length bytes)) (sym listing-refusal ∙ f) in
-          let a : answer_of w after ≡ record { refusal = 0; length = length bytes; output = over bytes out } = y ∙ rw (b, le-ltb column_limit g.shape.width fits, c) refl in
-          rw (step_is, f) (record {
-            count = ap (λ (r : LinesAnswer). r.length) a;
-            output = ap (λ (r : LinesAnswer). r.output) a;
-            goes = refl;
-            keeps = ap (λ (n : ℕ). record { view = view_of g.shaper; text = text_view_of p.state; number = n }) e;
-            same = λ x. absurd (true≢false x);
-          })
-        where
-          room : (c : Bool) → ◌≡◌ {A = ℕ} (cond c output_shorter_than_lines not_refused) 0 → c ≡ false
-          room true h = absurd (omega (arith, h))
-          room false h = refl
+  module _ (n : NextRow) (u : Rows p.shaper d.id d.entries (row_answer_from p.shaper (Ok n))) (after : List ℕ) where
+    pub room-refused : (e : Refusal) → answer_of (Err e) after ≡ listing n.shape d.mark out → DrawsOrRefuses (listing_row (progress_view_of p) (record_view_of d) out) p out after (Err e)
+    room-refused e y =
+        (room-stops p d out b (row_answer_from p.shaper (Ok n)) u refl (Err e) after y (some-number e), room-out p d out b (row_answer_from p.shaper (Ok n)) u refl (Err e) after y (some-number e))
 
--- ---- without a record
-pub undrawn-is : (draws : ProgressView → RecordView → List ℕ → StepReply) (p : ProgressView) (out : List ℕ) (o : Outcome) (r : RecordView)
-    → OneOf (1 ∷ 2 ∷ []) (tag_of the_type o) → undrawn p out o ≡ on_record draws p out o r
-undrawn-is draws p out Ready r h = absurd (no h)
-  where
-    no : OneOf (1 ∷ 2 ∷ []) 0 → ⊥
-    no h = ⊎_elim (λ e. omega (arith, e)) (λ e. omega (arith, e)) h
-undrawn-is draws p out Ended r h = refl
-undrawn-is draws p out (Refused n) r h = refl
-
-pub no_bytes : (p : Progress) (out : List ℕ) → Steps (stopped (progress_view_of p) []) p out out (record { length = 0; goes_on = false; progress = p })
-no_bytes p out = record { count = refl; output = refl; goes = refl; keeps = refl; same = λ e. refl }
-
--- ---- the record call's answer
-module _ (draws : ProgressView → RecordView → List ℕ → StepReply) (p : Progress) (left out : List ℕ) (a : RecordAnswer) (u : Records left a) (last : List ℕ) (s : Step) where
+-- ---- the record call's result
+module _ (draws : ProgressView → RecordView → List ℕ → StepReply) (p : Progress) (left out : List ℕ) where
   abbrev step : StepReply
   step = on_record draws (progress_view_of p) out (next_record left).outcome (next_record left).view
 
-  outcome-is : on_record draws (progress_view_of p) out a.outcome (record_view_of a.«record») ≡ step
-  outcome-is = ap (λ (r : RecordReply). on_record draws (progress_view_of p) out r.outcome r.view) u.reply
+  outcome-is : (a : RecordAnswer) → Records left a → on_record draws (progress_view_of p) out a.outcome (record_view_of a.«record») ≡ step
+  outcome-is a u = ap (λ (r : RecordReply). on_record draws (progress_view_of p) out r.outcome r.view) u.reply
 
-  pub step-undrawn : OneOf (1 ∷ 2 ∷ []) (tag_of the_type a.outcome) → Steps (undrawn (progress_view_of p) out a.outcome) p out last s → Steps step p out last s
-  step-undrawn h k = rw (← outcome-is, ← undrawn-is draws (progress_view_of p) out a.outcome (record_view_of a.«record») h) k
-
-  pub step-drawn : a.outcome ≡ Ready → Steps (draws (progress_view_of p) (record_view_of a.«record») out) p out last s → Steps step p out last s
-  step-drawn e k = rw (← outcome-is, e) k
-
--- the message's array has 82 bytes, and its first n are the message
-pub message-long : (l : List ℕ) (f : ℕ → ℕ) → length (map f l) ≡ message_room → length l ≡ message_room
-message-long l f e = sym (length-map l f) ∙ e
-
-pub front-is : (n : ℕ) (l : List ℕ) → take (n - 0) (drop 0 l) ≡ take n l
-front-is n l = let z : n - 0 ≡ n = omega arith in ap (λ (k : ℕ). take k l) z
-
--- what a step writes is within the output
-pub written-within : {s : StepReply} {p : Progress} {before after : List ℕ} {r : Step} → Steps s p before after r → r.length ≤ length after
-written-within {s} {p} {before} h = omega (arith, h.count, ap length h.output ∙ length-append s.written (drop (length s.written) before))
+  pub record-drawn : (d : Record) → Records left (record_answer_from (Ok (Some d))) → (after : List ℕ) (r : Result Step Refusal)
+      → DrawsOrRefuses (draws (progress_view_of p) (record_view_of d) out) p out after r → DrawsOrRefuses step p out after r
+  record-drawn d u after r h = rw (← outcome-is (record_answer_from (Ok (Some d))) u) h

@@ -1,14 +1,12 @@
 -- What document 01's two programs write for the bytes of a whole file, step by step; and a page's parts: the text calls for its records, and the line of
 -- the refusal at which it stops.
-use Rattle.std.specs.Prelude.{ℕ, zero, suc, ◌/◌, cond, List, [], ◌∷◌, ◌++◌, length, replicate}
+use Rattle.std.specs.Prelude.{ℕ, zero, suc, ◌/◌, ◌<◌, ◌≡◌, false, cond, List, [], ◌∷◌, ◌++◌, length, replicate}
 use Rattle.render.specs.Refusals.{refusal}
 use Rattle.shaper.specs.Shaper.{View}
 use Rattle.row_shape.specs.Row.{RowReply, row}
 use Rattle.slices.specs.Joins.{over}
 use Rattle.text.specs.Text.{TextCall, drawn_checks}
-use Rattle.record.specs.declared.Outcome.{Outcome}
-use Rattle.record.specs.declared.Outcome.TheVariants.{Ready, Ended, Refused}
-use Rattle.record.specs.Record.{record_length, pieces, RecordView, next_record}
+use Rattle.record.specs.Record.{record_length, pieces, RecordView, Outcome, Ready, Ended, Refused, next_record}
 use Rattle.steps.specs.Steps.{refused_line, ProgressView, beginning, next, StepReply, page_step, listing_step}
 
 -- ---- the programs
@@ -39,6 +37,10 @@ module _ (step : ProgressView → List ℕ → List ℕ → StepReply) where
   abbrev pub written_by : Running → List (List ℕ) → List ℕ
   written_by s [] = []
   written_by s (piece ∷ rest) = (step_on s piece).written ++ written_by (after_step s piece) rest
+
+  -- it stops at bytes that are fewer than a record's
+  abbrev pub StopsShort : Type 0
+  StopsShort = (s : Running) (piece : List ℕ) → length piece < record_length → (step_on s piece).goes_on ≡ false
 
 -- what a program writes: the bytes of each step, and the next step on what it keeps and on the same output, until one does not go on
 abbrev pub step_by_step : (ProgressView → List ℕ → List ℕ → StepReply) → ProgressView → List ℕ → List (List ℕ) → List ℕ

@@ -1,5 +1,5 @@
 -- What the programs begin with, and what the step functions promise.
-use Rattle.std.specs.Prelude.{ℕ, ◌≡◌, false, List, length, replicate}
+use Rattle.std.specs.Prelude.{ℕ, ◌≡◌, Bool, false, List, length, replicate, is_some, unwrap_or}
 use Rattle.slices.specs.Joins.{over}
 use Rattle.shaper.specs.Shaper.{view_of, fresh}
 use Rattle.output.specs.declared.TextState.{TextState}
@@ -29,8 +29,18 @@ pub record Begins (r : Progress) : Type 0 where
 
 -- ---- a step
 
+-- what a step gives beside the output: the count of bytes written, whether the program goes on, and what it keeps
+pub record StepAnswer : Type 0 where
+  pub length : ℕ
+  pub goes_on : Bool
+  pub progress : Progress
+
+-- what a step function gives, as such a step: a program that stops keeps what it had
+abbrev pub step_from : Progress → Step → StepAnswer
+step_from p r = record { length = r.length; goes_on = is_some r.next; progress = unwrap_or r.next p }
+
 -- what the definition says, "a prefix of the output and nothing behind it"; a program that stops keeps the structs themselves
-pub record Steps (s : StepReply) (p : Progress) (before after : List ℕ) (r : Step) : Type 0 where
+pub record Steps (s : StepReply) (p : Progress) (before after : List ℕ) (r : StepAnswer) : Type 0 where
   pub count : r.length ≡ length s.written
   pub output : after ≡ over s.written before
   pub goes : r.goes_on ≡ s.goes_on

@@ -12,9 +12,7 @@ use Rattle.slices.specs.Characters.{newline}
 use Rattle.prefix_lines.specs.Listing.{listing_bytes}
 use Rattle.output.specs.Output.{TextView, new_text}
 use Rattle.text.specs.Text.{TextReply, text}
-use Rattle.record.specs.declared.Outcome.{Outcome}
-use Rattle.record.specs.declared.Outcome.TheVariants.{Ready, Ended, Refused}
-use Rattle.record.specs.Record.{RecordView, next_record}
+use Rattle.record.specs.Record.{RecordView, Outcome, Ready, Ended, Refused, next_record}
 
 -- ---- the line that a refusal ends with
 

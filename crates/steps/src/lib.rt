@@ -3,24 +3,21 @@
 
 ghost use Rattle.std.specs.Prelude.{◌≡◌, ◌+◌, ◌≤◌, length, ◌++◌};
 ghost use Rattle.slices.specs.Joins.{over};
-ghost use Rattle.record.specs.Record.{message_room};
-ghost use Rattle.record.specs.Promises.{record_view_of};
-ghost use Rattle.steps.specs.Steps.{decimal_in, most_digits, refused_in, next as next_of, stopped, page_row, listing_row, page_step, listing_step};
-ghost use Rattle.steps.specs.Promises.{progress_view_of, Begins, Steps};
-ghost use Rattle.steps.specs.Inner.{undrawn};
+ghost use Rattle.render.specs.Refusals.{number as number_of};
+ghost use Rattle.steps.specs.Steps.{decimal_in, most_digits, refused_in, stopped, page_step, listing_step};
+ghost use Rattle.steps.specs.Promises.{progress_view_of, Begins, step_from, Steps};
+ghost use Rattle.steps.specs.Inner.{DrawsOrRefuses};
 
 use glyphs::Renderer;
+use itoa::Buffer;
 use output::{QUEUE_LIMIT, TextState};
 use prefix_lines::write_listing;
-use record::{Outcome, Record, next_record};
-use render::{ACCEPTED, DashStyle, LinkLinePlacement, MARK_OUTSIDE_SPAN, Options, Style, is_mark};
+use record::next_record;
+use render::{DashStyle, LinkLinePlacement, Options, Refusal, Style, is_mark};
 use row_shape::next_row_shape;
 use shaper::Shaper;
 use slices::write_bytes;
 use text::write_next_text;
-
-// The most decimal digits of a number.
-const MOST_DIGITS: usize = 20;
 
 // Room for each line that says what was refused.
 pub const LINE_ROOM: usize = 64;
@@ -33,31 +30,25 @@ pub struct Progress {
     pub number: u64,
 }
 
-// What a step gives beside the output: the count of bytes written, whether the program goes on, and what it keeps.
+// What a step gives beside the output: the count of bytes written, and what the program keeps, if it goes on.
 #[derive(Clone, Copy)]
 pub struct Step {
     pub length: usize,
-    pub goes_on: bool,
-    pub progress: Progress,
+    pub next: Option<Progress>,
 }
 
 // What both programs begin with: height 1, no staggering, Persistent, Top.
 pub fn begin() -> Progress
     ensures { Begins result }
 {
-    let dash_style = DashStyle::Persistent;
-    let link_line_placement = LinkLinePlacement::Top;
-    let graph_row_shape_style = Style {
-        dash_style,
-        link_line_placement,
-    };
     let options = Options {
         min_row_height: 1,
         stagger_consecutive_disconnected_nodes: false,
-        graph_row_shape_style,
+        graph_row_shape_style: Style {
+            dash_style: DashStyle::Persistent,
+            link_line_placement: LinkLinePlacement::Top,
+        },
     };
-    let made = Shaper::with_options(options);
-    let shaper = made.shaper;
     let state = TextState {
         queued_pad_line: [0; QUEUE_LIMIT],
         queued_length: 0,
@@ -65,45 +56,10 @@ pub fn begin() -> Progress
         row_height: 0,
     };
     Progress {
-        shaper,
+        shaper: Shaper::with_options(options).unwrap(),
         state,
         number: 0,
     }
-}
-
-// The number behind this one; the last one stays.
-fn next(number: u64) -> u64
-    ensures { result ≡ next_of number }
-{
-    if number < u64::MAX {
-        return number + 1;
-    }
-    number
-}
-
-// A decimal digit.
-fn digit(n: u64) -> u8
-    requires { n ≤ 9 }
-    ensures { result ≡ 0x30 + n }
-{
-    b'0' + n as u8
-}
-
-// Writes a number in decimal, if it has at most so many digits, and gives their count.
-fn write_decimal(out: &mut [u8], n: u64, most: usize) -> usize
-    requires { most ≤ length out.old }
-    ensures { (result ≡ length (decimal_in most n)) × (result ≤ most) × (out.new ≡ over (decimal_in most n) out.old) }
-{
-    if most == 0 {
-        return 0;
-    }
-    if n < 10 {
-        out[0] = digit(n);
-        return 1;
-    }
-    let at = write_decimal(out, n / 10, most - 1);
-    out[at] = digit(n % 10);
-    at + 1
 }
 
 // Writes some words and a number behind them, and gives the count of their bytes.
@@ -113,144 +69,104 @@ fn write_number(out: &mut [u8], words: &[u8], n: u64) -> usize
         × (out.new ≡ over (words.now ++ decimal_in most_digits n) out.old) }
 {
     let at = write_bytes(out, words);
-    at + write_decimal(&mut out[at..], n, MOST_DIGITS)
+    at + write_bytes(&mut out[at..], Buffer::new().format(n).as_bytes())
 }
 
 // Writes the line that says what was refused, if there is room for it, and gives the count of its bytes.
-fn write_refused(out: &mut [u8], refusal: u8, number: u64) -> usize
-    ensures { (result ≡ length (refused_in out.old refusal number)) × (out.new ≡ over (refused_in out.old refusal number) out.old) }
+fn write_refused(out: &mut [u8], refusal: Refusal, number: u64) -> usize
+    ensures { (result ≡ length (refused_in out.old (number_of refusal) number)) × (out.new ≡ over (refused_in out.old (number_of refusal) number) out.old) }
 {
     if out.len() < LINE_ROOM {
         return 0;
     }
-    let at = write_number(out, b"refused ", refusal as u64);
+    let at = write_number(out, b"refused ", u64::from(refusal.number()));
     let end = at + write_number(&mut out[at..], b" at record ", number);
     out[end] = b'\n';
     end + 1
 }
 
 // A step that stops at a refusal.
-fn refused(out: &mut [u8], refusal: u8, progress: Progress) -> Step
-    ensures { Steps (stopped (progress_view_of progress) (refused_in out.old refusal progress.number)) progress out.old out.new result }
+fn refused(out: &mut [u8], refusal: Refusal, progress: Progress) -> Step
+    ensures { Steps (stopped (progress_view_of progress) (refused_in out.old (number_of refusal) progress.number)) progress out.old out.new (step_from progress result) }
 {
-    let length = write_refused(out, refusal, progress.number);
     Step {
-        length,
-        goes_on: false,
-        progress,
+        length: write_refused(out, refusal, progress.number),
+        next: None,
     }
 }
 
-// A step that draws no record: the records have ended, or the bytes were refused.
-fn without_record(out: &mut [u8], outcome: Outcome, progress: Progress) -> Step
-    ensures { Steps (undrawn (progress_view_of progress) out.old outcome) progress out.old out.new result }
+// DrawsOrRefuses the next record as text, if there is one, unless it is refused.
+fn draw_page(out: &mut [u8], left: &[u8], progress: Progress) -> Result<Step, Refusal>
+    ensures { DrawsOrRefuses (page_step (progress_view_of progress) left.now out.old) progress out.old out.new result }
 {
-    match outcome {
-        Outcome::Refused(refusal) => refused(out, refusal, progress),
-        Outcome::Ended => Step {
+    let Some(decoded) = next_record(left)? else {
+        return Ok(Step {
             length: 0,
-            goes_on: false,
-            progress,
-        },
-        Outcome::Ready => Step {
-            length: 0,
-            goes_on: false,
-            progress,
-        },
-    }
-}
-
-// Draws a record as text.
-fn page_row(out: &mut [u8], decoded: Record, progress: Progress) -> Step
-    requires { decoded.message_length ≤ message_room }
-    ensures { Steps (page_row (progress_view_of progress) (record_view_of decoded) out.old) progress out.old out.new result }
-{
-    let shaper = progress.shaper;
-    let state = progress.state;
-    let entries = decoded.entries;
-    let message = decoded.message;
-    let n = decoded.message_length;
-    let renderer = Renderer::Curved;
+            next: None,
+        });
+    };
     let given = write_next_text(
-        shaper,
-        state,
-        renderer,
+        progress.shaper,
+        progress.state,
+        Renderer::Curved,
         decoded.id,
-        entries,
+        decoded.entries,
         decoded.mark,
-        &message[0..n],
+        &decoded.message[..decoded.message_length],
         out,
-    );
-    if given.refusal != ACCEPTED {
-        return refused(out, given.refusal, progress);
-    }
-    let shaper_then = given.shaper;
-    let state_then = given.state;
-    Step {
+    )?;
+    Ok(Step {
         length: given.length,
-        goes_on: true,
-        progress: Progress {
-            shaper: shaper_then,
-            state: state_then,
-            number: next(progress.number),
-        },
-    }
+        next: Some(Progress {
+            shaper: given.shaper,
+            state: given.state,
+            number: progress.number.saturating_add(1),
+        }),
+    })
 }
 
-// Draws a record as lines of the listing.
-fn listing_row(out: &mut [u8], decoded: Record, progress: Progress) -> Step
-    ensures { Steps (listing_row (progress_view_of progress) (record_view_of decoded) out.old) progress out.old out.new result }
+// DrawsOrRefuses the next record as lines of the listing, if there is one, unless it is refused.
+// Beside `draw_page`: one step over a closure that is lent the output would have clauses longer than the lines that the two share.
+fn draw_listing(out: &mut [u8], left: &[u8], progress: Progress) -> Result<Step, Refusal>
+    ensures { DrawsOrRefuses (listing_step (progress_view_of progress) left.now out.old) progress out.old out.new result }
 {
-    let mark = decoded.mark;
-    if !is_mark(mark) {
-        return refused(out, MARK_OUTSIDE_SPAN, progress);
+    let Some(decoded) = next_record(left)? else {
+        return Ok(Step {
+            length: 0,
+            next: None,
+        });
+    };
+    if !is_mark(decoded.mark) {
+        return Err(Refusal::MarkOutsideSpan);
     }
-    let shaper = progress.shaper;
-    let entries = decoded.entries;
-    let given = next_row_shape(shaper, decoded.id, entries);
-    if given.refusal != ACCEPTED {
-        return refused(out, given.refusal, progress);
-    }
-    let shape = given.shape;
-    let written = write_listing(shape, mark, out);
-    if written.refusal != ACCEPTED {
-        return refused(out, written.refusal, progress);
-    }
-    let shaper_then = given.shaper;
-    let state = progress.state;
-    Step {
-        length: written.length,
-        goes_on: true,
-        progress: Progress {
-            shaper: shaper_then,
-            state,
-            number: next(progress.number),
-        },
-    }
+    let given = next_row_shape(progress.shaper, decoded.id, decoded.entries)?;
+    let length = write_listing(given.shape, decoded.mark, out)?;
+    Ok(Step {
+        length,
+        next: Some(Progress {
+            shaper: given.shaper,
+            state: progress.state,
+            number: progress.number.saturating_add(1),
+        }),
+    })
 }
 
 // A step of the page program, on the bytes that are left.
 pub fn page_step(out: &mut [u8], left: &[u8], progress: Progress) -> Step
-    ensures { Steps (page_step (progress_view_of progress) left.now out.old) progress out.old out.new result }
+    ensures { Steps (page_step (progress_view_of progress) left.now out.old) progress out.old out.new (step_from progress result) }
 {
-    let answer = next_record(left);
-    let outcome = answer.outcome;
-    let Outcome::Ready = outcome else {
-        return without_record(out, outcome, progress);
-    };
-    let decoded = answer.record;
-    page_row(out, decoded, progress)
+    match draw_page(out, left, progress) {
+        Ok(step) => step,
+        Err(refusal) => refused(out, refusal, progress),
+    }
 }
 
 // A step of the listing program, on the bytes that are left.
 pub fn listing_step(out: &mut [u8], left: &[u8], progress: Progress) -> Step
-    ensures { Steps (listing_step (progress_view_of progress) left.now out.old) progress out.old out.new result }
+    ensures { Steps (listing_step (progress_view_of progress) left.now out.old) progress out.old out.new (step_from progress result) }
 {
-    let answer = next_record(left);
-    let outcome = answer.outcome;
-    let Outcome::Ready = outcome else {
-        return without_record(out, outcome, progress);
-    };
-    let decoded = answer.record;
-    listing_row(out, decoded, progress)
+    match draw_listing(out, left, progress) {
+        Ok(step) => step,
+        Err(refusal) => refused(out, refusal, progress),
+    }
 }

@@ -5,16 +5,18 @@ use mathlib.Core.List.{List}
 use Prim.Native.Nat.{ℕ, zero, suc, ◌<◌, ◌≤◌}
 use native.Mathlib.Omega.{arith}
 use borrow.Author.Tests.{lt-ltb, le-ltb, ne_eqb}
-use lib.Dec.{ltb}
+use lib.Dec.{ltb, lit≤}
 use lib.ListN.{length}
 use Rattle.column.specs.Columns.{column_limit}
 use Rattle.render.specs.declared.render.Entries.{Entries}
 use Rattle.render.specs.declared.types.RowShape.{RowShape}
 use Rattle.render.specs.Entries.{listed}
 use Rattle.render.specs.Mark.{is_mark}
-use Rattle.render.specs.Refusals.{not_refused, mark_outside_span, message_too_long, message_byte_not_writable, output_shorter_than_lines, refusal}
+use Rattle.render.specs.Refusals.{not_refused, mark_outside_span, message_too_long, message_byte_not_writable, output_shorter_than_lines, refusal, number as number_of}
+use Rattle.render.specs.declared.refusals.Refusal.{Refusal}
+use Rattle.render.specs.declared.refusals.Refusal.TheVariants.{HeightAboveLimit, NoColumnLeft, TooManyEntries, NodeLineTooWide, MarkOutsideSpan, MessageTooLong, MessageByteNotWritable, OutputShorterThanLines, RecordCutShort, TooManyParents, KindAboveLimit, ShapeTooWide, IdNotBelowPrevious, ParentNotBelowId, UnequalRecords, OutputShorterThanResult, WidthOutsideSpan, TooFewCellsLeft, GlyphByteNotPrintable, TooManyRecords, TooManyReached, NoSuchRecord, ByteNotReadable, ByteNotAGlyph}
 use Rattle.shaper.specs.declared.Shaper.{Shaper}
-use Rattle.row_shape.specs.declared.RowAnswer.{RowAnswer}
+use Rattle.row_shape.specs.Promises.{RowAnswer}
 use Rattle.shaper.specs.Shaper.{View, view_of}
 use Rattle.row_shape.specs.Row.{RowReply, row}
 use Rattle.row_shape.specs.Promises.{row_reply_of, Rows}
@@ -24,11 +26,42 @@ use Rattle.glyphs.specs.Cells.{glyphs_of}
 use Rattle.message.specs.Message.{message_limit, is_writable, all_of, lines_of}
 use Rattle.output.specs.declared.TextState.{TextState}
 use Rattle.output.specs.Output.{finish, text_of, TextView, text_view_of}
-use Rattle.text.specs.declared.graph_text_renderer.TextAnswer.{TextAnswer}
-use Rattle.text.specs.declared.prefix_lines_to_text.RowText.{RowText}
+use Rattle.std.specs.Prelude.{Result, Ok, Err}
+use Rattle.std.specs.Result.{IsErrAnd}
+use Rattle.text.specs.declared.graph_text_renderer.NextText.{NextText}
 use Rattle.text.specs.Text.{text_lines, text_after, text_checks, text_answer, text_with}
-use Rattle.text.specs.Promises.{text_reply_of, Texts}
-use Rattle.text.specs.Inner.{RowTexts}
+use Rattle.text.specs.Promises.{TextAnswer, text_answer_from, text_reply_of, Texts}
+use Rattle.text.specs.Inner.{RowText, RowTexts}
+
+-- no refusal has the number of none
+positive : (e : Refusal) → 0 < number_of e
+positive HeightAboveLimit = lit≤ tt
+positive NoColumnLeft = lit≤ tt
+positive TooManyEntries = lit≤ tt
+positive NodeLineTooWide = lit≤ tt
+positive MarkOutsideSpan = lit≤ tt
+positive MessageTooLong = lit≤ tt
+positive MessageByteNotWritable = lit≤ tt
+positive OutputShorterThanLines = lit≤ tt
+positive RecordCutShort = lit≤ tt
+positive TooManyParents = lit≤ tt
+positive KindAboveLimit = lit≤ tt
+positive ShapeTooWide = lit≤ tt
+positive IdNotBelowPrevious = lit≤ tt
+positive ParentNotBelowId = lit≤ tt
+positive UnequalRecords = lit≤ tt
+positive OutputShorterThanResult = lit≤ tt
+positive WidthOutsideSpan = lit≤ tt
+positive TooFewCellsLeft = lit≤ tt
+positive GlyphByteNotPrintable = lit≤ tt
+positive TooManyRecords = lit≤ tt
+positive TooManyReached = lit≤ tt
+positive NoSuchRecord = lit≤ tt
+positive ByteNotReadable = lit≤ tt
+positive ByteNotAGlyph = lit≤ tt
+
+pub number-some : (e : Refusal) → number_of e ≡ 0 → ⊥
+number-some e z = omega (arith, positive e, z)
 
 -- an accepted row has at most 64 cells
 pub accepted-width : (s : Shaper) (n : ℕ) (es : Entries) (g : RowAnswer) → Rows s n es g → g.refusal ≡ 0 → g.shape.width ≤ column_limit
@@ -62,6 +95,11 @@ module _ (s : Shaper) (t : TextState) (q : Renderer) (n : ℕ) (es : Entries) (m
 
   abbrev refused_with : ℕ → TextAnswer
   refused_with k = record { refusal = k; length = 0; measure = 0; shaper = s; state = t }
+
+  -- what `?` hands on is the refusal itself
+  pub handed-on : (r : Result NextText Refusal) (e : Refusal) → IsErrAnd r (λ x. x ≡ e) → text_answer_from s t r ≡ refused_with (number_of e)
+  handed-on (Ok x) e h = absurd h
+  handed-on (Err x) e h = ap (λ (y : Refusal). refused_with (number_of y)) h
 
   pub mark-refused : (r : TextAnswer) → is_mark mark ≡ false → r ≡ refused_with mark_outside_span → Texts s t q n es mark message out out r
   mark-refused r b e = refusing 4 r (rw b refl) e

@@ -40,9 +40,8 @@ use Rattle.output.specs.declared.TextState.{TextState}
 use Rattle.output.specs.Output.{queue_limit, finish, ended, text_of, greatest, line_measure, TextView, text_view_of, begin_row, Puts}
 use Rattle.output.proofs.PutLaws.{measure-append, text-length, begin-short, put_count, put-bytes, put-measure}
 use Rattle.text.specs.declared.prefix_lines_to_text.Plan.{Plan}
-use Rattle.text.specs.declared.prefix_lines_to_text.RowText.{RowText}
 use Rattle.text.specs.Text.{is_repeatable, is_bottom, times, needed, repeated, with_messages, prefix, row_lines, text_after, text_lines}
-use Rattle.text.specs.Inner.{line_with, drawn, prefix_measure, measures_with, whole_measure, measure_in, spread, one, line_times, fixed_lines, plan_of, prefixes, all_lines_of, most_bytes, waits, state_after, QueueFits, RowWith, RowTexts}
+use Rattle.text.specs.Inner.{line_with, drawn, prefix_measure, measures_with, whole_measure, measure_in, spread, one, line_times, fixed_lines, plan_of, prefixes, all_lines_of, most_bytes, waits, state_after, QueueFits, RowText, RowWith, RowTexts}
 use Rattle.text.proofs.SpanLaws.{own-two, prefix-spans, AllSpan, span-map, lines-measure}
 use Rattle.text.proofs.RepeatLaws.{cells-short, drawn-messages, spread-length, map-append, map-times, short-map, drawn-short}
 

@@ -3,15 +3,15 @@ use mathlib.Core.Path.{◌≡◌, refl, sym, ap, ◌∙◌}
 use mathlib.Core.Bool.{Bool, true, false, cond}
 use mathlib.Core.List.{List, [], ◌∷◌, ◌++◌, append_assoc, append-nil}
 use Prim.Native.Nat.{ℕ, zero, suc, ◌+◌, ◌-◌, ◌<◌, ◌≤◌}
-use native.Mathlib.Numerals.{add-one}
 use native.Mathlib.Omega.{arith}
 use lib.Dec.{eqb}
-use lib.ListN.{length, take, drop, get_or, set, replicate, length-append, length-drop, length-replicate, get_or-replicate, drop_of_length-le}
-use lib.Seq.{take_at, take_all, length-take-le, get_or-take, paste, paste-suc}
+use lib.ListN.{length, take, drop, set, replicate, length-append, length-drop, length-replicate, drop_of_length-le}
+use lib.Seq.{take_all, length-take-le}
+use Rattle.std.specs.List.{copy_within}
 use borrow.Author.Tests.{eqb-true, eqb-false, eq-eqb, ne_eqb}
 use Rattle.slices.specs.Characters.{newline, blank}
 use Rattle.slices.specs.Joins.{over, Writes}
-use Rattle.slices.proofs.OverLaws.{so_far, so-far-step, so-far-end, over-one, length_over, part_room, part-written, wrote, wrote_count}
+use Rattle.slices.proofs.OverLaws.{over-one, length_over, part_room, part-written, wrote, wrote_count}
 use Rattle.message.specs.Message.{trim_end}
 use Rattle.message.proofs.MessageLaws.{keep-more, trim-length, trim-front, trim-behind, trim-take}
 use Rattle.glyphs.specs.Tables.{WritesCells}
@@ -135,45 +135,30 @@ module _ (xs part d : List ℕ) (whole n : ℕ) (e : n ≡ length (trim_end part
       some_end = cells_count xs (n + 2) d o at w some-room
 
       pub some-done : (p : List ℕ) (k : ℕ) → length o ≡ length d
-          → (k ≡ length (take (n - 0) (drop 0 part)) + 2) × (p ≡ over (blank ∷ ended (take (n - 0) (drop 0 part))) (take (length o - at) (drop at o)))
+          → (k ≡ length (take n part) + 2) × (p ≡ over (blank ∷ ended (take n part)) (take (length o - at) (drop at o)))
           → WritesLine xs part whole d (take at o ++ (p ++ drop (length o - at) (drop at o))) (record { length = at + k; measure = whole + n + 1 })
       some-done p k same (f, g) =
-          let z : n - 0 ≡ n = omega arith in
           let all : take (length o - at) (drop at o) ≡ drop at o = take_all (length o - at) (drop at o) (rw (length-drop at o) (omega arith)) in
           let gone : drop (length o - at) (drop at o) ≡ [] = drop_of_length-le (drop at o) {i = length o - at} (rw (length-drop at o) (omega arith)) in
-          let w-is : take (n - 0) (drop 0 part) ≡ trim_end part = rw z t in
-          let p-is : p ≡ over rest (drop at o) = rw (w-is, all) at g in
+          let p-is : p ≡ over rest (drop at o) = rw (t, all) at g in
           let back : take at o ++ (p ++ drop (length o - at) (drop at o)) ≡ take at o ++ over rest (drop at o) = rw (gone, append-nil, p-is) refl in
           record {
-            count = omega (arith, some_end, f, ap length w-is, e, ap length some_bytes, length-append xs rest, rest-length);
+            count = omega (arith, some_end, f, ap length t, e, ap length some_bytes, length-append xs rest, rest-length);
             output = cells-then xs rest d o at (rw rest-length w) (rw rest-length some-room) back ∙ ap (λ (l : List ℕ). over l d) some_bytes;
             measure = some-measure;
           }
 
--- ---- loops over bytes
--- the first bytes of d, copied from `at` on: o says so of the first i of them
-module _ (d : List ℕ) (count at i : ℕ) (before : count ≤ at) (room : at + count ≤ length d) {o : List ℕ} (e : o ≡ paste d at d i) where
-  pub copy-next : i < count → set o (at + i) (get_or o i 0) ≡ paste d at d (i + 1)
-  copy-next h =
-      let k : take at o ≡ take at d
-      = ap (take at) (e ∙ append_assoc (take at d) (take i d) (drop (at + i) d)) ∙ take_at (take at d) (take i d ++ drop (at + i) d) at (length-take-le at d (omega arith)) in
-      let v : get_or o i 0 ≡ get_or d i 0
-      = sym (get_or-take at o i 0 (omega arith)) ∙ ap (λ (l : List ℕ). get_or l i 0) k ∙ get_or-take at d i 0 (omega arith) in
-      rw (v, e, add-one) (paste-suc d at d i 0 (omega arith) (omega arith))
+-- ---- the first bytes of d, copied to `at` of it
+pub copied-within : (d : List ℕ) (count at : ℕ) {o : List ℕ} → o ≡ copy_within d 0 count at → o ≡ take at d ++ (take count d ++ drop (at + count) d)
+copied-within d count at e =
+    let z : count - 0 ≡ count = omega arith in
+    e ∙ rw z (append_assoc (take at d) (take count d) (drop (at + count) d))
 
-  pub copy-end : count ≤ i → i ≤ count → o ≡ take at d ++ (take count d ++ drop (at + count) d)
-  copy-end h k =
-      let z : i ≡ count = omega arith in
-      e ∙ append_assoc (take at d) (take i d) (drop (at + i) d) ∙ ap (λ (j : ℕ). take at d ++ (take j d ++ drop (at + j) d)) z
-
--- blanks over the start of d: o says so of the first i of them
-module _ (d : List ℕ) (count i : ℕ) (room : count ≤ length d) {o : List ℕ} (e : o ≡ so_far (replicate count blank) i d) where
-  pub blank-next : i < count → set o i blank ≡ so_far (replicate count blank) (i + 1) d
-  blank-next h =
-      so-far-step (replicate count blank) d i e (sym (get_or-replicate count i blank 0 h)) (omega (arith, length-replicate count blank)) (omega (arith, length-replicate count blank))
-
-  pub blank-end : count ≤ i → i ≤ count → o ≡ over (replicate count blank) d
-  blank-end h k = so-far-end (replicate count blank) d i e (omega (arith, length-replicate count blank))
+-- blanks over the start of d
+pub filled : (d : List ℕ) (count : ℕ) {p : List ℕ} → count ≤ length d → p ≡ replicate (length (take count d)) blank → p ++ drop count d ≡ over (replicate count blank) d
+filled d count h e =
+    let z : length (replicate count blank) ≡ count = length-replicate count blank in
+    rw (e, length-take-le count d h, z) refl
 
 -- ---- what stands behind a finished prefix line
 module _ (blanks : ℕ) (part : List ℕ) (n : ℕ) (e : n ≡ length (trim_end part)) where
@@ -199,16 +184,14 @@ module _ (blanks : ℕ) (part : List ℕ) (n : ℕ) (e : n ≡ length (trim_end 
       behind-room = omega (arith, behind-length some, room)
 
       pub behind-done : (o p : List ℕ) (k : ℕ) → o ≡ over (replicate blanks blank) d
-          → (k ≡ length (take (n - 0) (drop 0 part)) + 2) × (p ≡ over (blank ∷ ended (take (n - 0) (drop 0 part))) (take (length o - blanks) (drop blanks o)))
+          → (k ≡ length (take n part) + 2) × (p ≡ over (blank ∷ ended (take n part)) (take (length o - blanks) (drop blanks o)))
           → (blanks + k ≡ length (behind_finished blanks part))
           × (take blanks o ++ (p ++ drop (length o - blanks) (drop blanks o)) ≡ over (behind_finished blanks part) d)
-      behind-done o p k f (g, h) =
-          let z : n - 0 ≡ n = omega arith in
-          let w : take (n - 0) (drop 0 part) ≡ trim_end part = rw z t in (
-            omega (arith, g, ap length w, e, behind-length some),
-            part-written (replicate blanks blank) (blank ∷ ended (trim_end part)) d f (sym (length-replicate blanks blank)) (rw w at h)
-                ∙ ap (λ (l : List ℕ). over l d) (sym (behind_more some)),
-          )
+      behind-done o p k f (g, h) = (
+        omega (arith, g, ap length t, e, behind-length some),
+        part-written (replicate blanks blank) (blank ∷ ended (trim_end part)) d f (sym (length-replicate blanks blank)) (rw t at h)
+            ∙ ap (λ (l : List ℕ). over l d) (sym (behind_more some)),
+      )
 
 -- it has a byte at least, the end
 pub behind-some : (blanks : ℕ) (part : List ℕ) → 0 < length (behind_finished blanks part)

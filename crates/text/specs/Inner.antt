@@ -1,11 +1,12 @@
 -- What the inner functions of text give.
-use Rattle.std.specs.Prelude.{ℕ, ◌+◌, ◌-◌, ◌*◌, ◌≤◌, min, max, ◌≡◌, Bool, false, cond, ◌&&◌, List, [], ◌∷◌, ◌++◌, map, eqb, ltb, length, take, drop, replicate}
+use Rattle.std.specs.Prelude.{ℕ, ◌+◌, ◌-◌, ◌*◌, ◌≤◌, min, max, ◌≡◌, Bool, false, cond, ◌&&◌, List, [], ◌∷◌, ◌++◌, map, eqb, ltb, length, take, drop, replicate, Result, Ok, Err}
 use Rattle.slices.specs.Characters.{newline, blank}
 use Rattle.slices.specs.Joins.{over}
 use Rattle.column.specs.Columns.{column_limit}
 use Rattle.render.specs.declared.types.LinkLinePlacement.{LinkLinePlacement}
 use Rattle.render.specs.declared.types.RowShape.{RowShape}
-use Rattle.render.specs.Refusals.{not_refused, output_shorter_than_lines}
+use Rattle.render.specs.declared.refusals.Refusal.{Refusal}
+use Rattle.render.specs.Refusals.{not_refused, output_shorter_than_lines, number}
 use Rattle.message.specs.Message.{lines_of, trim_end}
 use Rattle.message.specs.Inner.{first_line, other_lines}
 use Rattle.glyphs.specs.declared.Renderer.{Renderer}
@@ -22,7 +23,7 @@ use Rattle.text.specs.declared.lines.Lengths.{Lengths}
 use Rattle.text.specs.declared.prefix_lines_to_text.Counted.{Counted}
 use Rattle.text.specs.declared.prefix_lines_to_text.Plan.{Plan}
 use Rattle.text.specs.declared.prefix_lines_to_text.RowPut.{RowPut}
-use Rattle.text.specs.declared.prefix_lines_to_text.RowText.{RowText}
+use Rattle.text.specs.declared.prefix_lines_to_text.WrittenRow.{WrittenRow}
 use Rattle.text.specs.Text.{is_bottom, times, text_lines, text_after}
 
 -- ---- one line
@@ -155,6 +156,18 @@ abbrev pub QueueFits : TextState → Type 0
 QueueFits t = (t.queued_length ≤ queue_limit) × (t.is_queued ≡ false → t.queued_length ≡ 0)
 
 -- ---- a row's text
+
+-- what a writer of a row's text gives beside the output: the refusal's number, 0 for none, the count of bytes written, the line measure, and the text state after it
+pub record RowText : Type 0 where
+  pub refusal : ℕ
+  pub length : ℕ
+  pub measure : ℕ
+  pub state : TextState
+
+-- the result of a writer of a row's text, as the answer
+abbrev pub row_text_from : TextState → Result WrittenRow Refusal → RowText
+row_text_from t (Ok r) = record { refusal = not_refused; length = r.length; measure = r.measure; state = r.state }
+row_text_from t (Err e) = record { refusal = number e; length = 0; measure = 0; state = t }
 
 -- a row's text drawn from a table: written where the output has room for it; else nothing is
 pub record RowWith (table : List ℕ) (d : Drawing) (p : Plan) (message : List ℕ) (t : TextView) (separator : Bool) (before after : List ℕ) (r : RowText) : Type 0 where

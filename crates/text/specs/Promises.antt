@@ -1,15 +1,30 @@
 -- What the text call promises.
-use Rattle.std.specs.Prelude.{ℕ, ◌≤◌, ◌≡◌, false, List}
+use Rattle.std.specs.Prelude.{ℕ, ◌≤◌, ◌≡◌, false, List, Result, Ok, Err}
 use Rattle.column.specs.Columns.{column_limit, SpareEmpty}
 use Rattle.render.specs.declared.render.Entries.{Entries}
 use Rattle.render.specs.Entries.{listed}
+use Rattle.render.specs.declared.refusals.Refusal.{Refusal}
+use Rattle.render.specs.Refusals.{not_refused, number}
 use Rattle.shaper.specs.declared.Shaper.{Shaper}
 use Rattle.shaper.specs.Shaper.{view_of}
 use Rattle.glyphs.specs.declared.Renderer.{Renderer}
 use Rattle.output.specs.declared.TextState.{TextState}
 use Rattle.output.specs.Output.{queue_limit, text_view_of}
-use Rattle.text.specs.declared.graph_text_renderer.TextAnswer.{TextAnswer}
+use Rattle.text.specs.declared.graph_text_renderer.NextText.{NextText}
 use Rattle.text.specs.Text.{TextReply, text}
+
+-- what the text call gives beside the output: the refusal's number, 0 for none, the count of bytes written, the line measure, and both states after it
+pub record TextAnswer : Type 0 where
+  pub refusal : ℕ
+  pub length : ℕ
+  pub measure : ℕ
+  pub shaper : Shaper
+  pub state : TextState
+
+-- the result of a text call, as the answer: "A refusal gives its number, length 0, .. and changes no state" (01, "Where a call turns back")
+abbrev pub text_answer_from : Shaper → TextState → Result NextText Refusal → TextAnswer
+text_answer_from s t (Ok r) = record { refusal = not_refused; length = r.length; measure = r.measure; shaper = r.shaper; state = r.state }
+text_answer_from s t (Err e) = record { refusal = number e; length = 0; measure = 0; shaper = s; state = t }
 
 -- what the call gave, as the definition says it
 abbrev pub text_reply_of : TextAnswer → List ℕ → TextReply

@@ -4,7 +4,8 @@
 mod graph_text_renderer;
 mod lines;
 mod prefix_lines_to_text;
+mod row_lines;
 
-pub use graph_text_renderer::{TextAnswer, write_next_text};
+pub use graph_text_renderer::{NextText, write_next_text};
 pub use lines::Lengths;
-pub use prefix_lines_to_text::{Counted, Plan, RowPut, RowText};
+pub use prefix_lines_to_text::{Counted, Plan, RowPut, WrittenRow};

@@ -1,6 +1,6 @@
 // One line of text: a prefix line with the mark in place, a blank and a message line, without the blanks at the end. Each writer is lent the
 // unwritten part of the output, and gives the count written.
-ghost use Rattle.std.specs.Prelude.{◌≡◌, List, ◌∷◌, ◌++◌, ℕ, ◌+◌, ◌*◌, ◌≤◌, length, take, drop, replicate};
+ghost use Rattle.std.specs.Prelude.{◌≡◌, List, ◌∷◌, ℕ, ◌+◌, ◌*◌, ◌≤◌, length, take};
 ghost use Rattle.column.specs.Columns.{column_limit};
 ghost use Rattle.glyphs.specs.Tables.{cells_text, first_cells};
 ghost use Rattle.message.specs.Message.{message_limit, trim_end};
@@ -12,7 +12,6 @@ ghost use Rattle.text.specs.Inner.{Measured, behind_finished, line_with, prefix_
 use glyphs::{cells_length, trailing_blanks, write_cells, write_finished};
 use message::trimmed_length;
 use output::{Put, write_ended};
-use slices::difference;
 
 // How long a prefix line is: the count of its bytes, and that without the blanks at the end.
 #[derive(Clone, Copy)]
@@ -52,6 +51,8 @@ fn write_part(out: &mut [u8], part: &[u8]) -> usize
 }
 
 // Writes a prefix line with a message line (`push_line_with_message`); the prefix line by itself measures `whole`.
+// Table, numbers and cells are no struct of their own: they go on, one by one, to the writers of glyphs, which are lent the output (`write_cells`).
+// Here and in `repeat_text_line` the bound on `whole` is said again: these stand below `RowLines`, whose fields have what they need.
 pub(crate) fn write_text_line(
     out: &mut [u8],
     table: &[u8],
@@ -71,37 +72,13 @@ pub(crate) fn write_text_line(
         out[end] = b'\n';
         return Put {
             length: end + 1,
-            measure: difference(whole, blanks),
+            measure: whole.saturating_sub(blanks),
         };
     }
     let at = write_cells(out, table, numbers, cells, n + 2);
     Put {
-        length: at + write_part(&mut out[at..], &part[0..n]),
+        length: at + write_part(&mut out[at..], &part[..n]),
         measure: whole + n + 1,
-    }
-}
-
-// Copies the first bytes of the output to a later place of it.
-fn copy_first(out: &mut [u8], count: usize, at: usize)
-    requires { (count ≤ at) × (at + count ≤ length out.old) }
-    ensures { out.new ≡ take at out.old ++ (take count out.old ++ drop (at + count) out.old) }
-{
-    let mut i: usize = 0;
-    while i < count {
-        out[at + i] = out[i];
-        i += 1;
-    }
-}
-
-// Writes blanks.
-fn write_blanks(out: &mut [u8], count: usize)
-    requires { count ≤ length out.old }
-    ensures { out.new ≡ over (replicate count blank) out.old }
-{
-    let mut i: usize = 0;
-    while i < count {
-        out[i] = b' ';
-        i += 1;
     }
 }
 
@@ -116,8 +93,8 @@ fn write_behind(out: &mut [u8], blanks: usize, part: &[u8]) -> usize
         out[0] = b'\n';
         return 1;
     }
-    write_blanks(out, blanks);
-    blanks + write_part(&mut out[blanks..], &part[0..n])
+    out[..blanks].fill(b' ');
+    blanks + write_part(&mut out[blanks..], &part[..n])
 }
 
 // Writes a prefix line once more, from `at` on, with the next message line: its first bytes are those of the output.
@@ -132,14 +109,14 @@ pub(crate) fn repeat_text_line(
     requires part_in_bounds { at + length (ended (line_with (prefix_again lengths out.old) part.now)) ≤ length out.old }
     ensures { WritesLineAt (prefix_again lengths out.old) part.now whole at out.old out.new result }
 {
-    copy_first(out, lengths.finished, at);
+    out.copy_within(..lengths.finished, at);
     let from = at + lengths.finished;
     let lacked = lengths.all - lengths.finished;
     let count = write_behind(&mut out[from..], lacked, part);
     if count == 1 {
         return Put {
             length: lengths.finished + 1,
-            measure: difference(whole, lacked),
+            measure: whole.saturating_sub(lacked),
         };
     }
     Put {

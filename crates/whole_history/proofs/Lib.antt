@@ -1,9 +1,5 @@
-pub mod RecordReads
 pub mod RunLaws
+pub mod WalkLaws
 pub mod ShapeLaws
-pub mod TextTurn
-pub mod PutTurn
-pub mod ShapeTurn
-pub mod PreviewTurn
-pub mod LinesTurn
-pub mod HeldLaws
+pub mod RefusalLaws
+pub mod TurnLaws

@@ -1,15 +1,16 @@
 -- Laws of a whole history, for any step: the records that are left, a turn of the loop, and its ends.
-use Prim.Native.Nat.{ℕ, suc, ◌+◌, ◌*◌, ◌-◌, ◌/◌, ◌<◌, ◌≤◌}
+use Prim.Native.Nat.{ℕ, zero, suc, ◌+◌, ◌-◌, ◌<◌, ◌≤◌}
 use mathlib.Core.Path.{◌≡◌, refl, sym, ap, ◌∙◌}
 use mathlib.Core.Bool.{Bool, true, false}
-use mathlib.Core.List.{List, [], ◌∷◌, ◌++◌, append-nil}
-use mathlib.Core.Option.{Option, none, some}
+use mathlib.Core.List.{List, ◌∷◌, ◌++◌, append-nil}
+use Rattle.std.specs.Prelude.{Option, Some, None}
+use Rattle.std.specs.Simd.{first_chunks}
 use native.Mathlib.Numerals.{add-one}
 use native.Mathlib.Omega.{arith}
-use lib.ListN.{length, take, drop, length-drop, take-append-drop, drop_of_length-le}
-use lib.Seq.{take_all, drop-drop}
+use lib.ListN.{length, get_or, take, drop, length-drop, take-append-drop, drop_of_length-le}
+use lib.Seq.{take_all, drop-cons}
 use Rattle.record.specs.Record.{record_length, pieces}
-use Rattle.whole_history.specs.Whole.{records_of, State, place_after, Whole, rows_of}
+use Rattle.whole_history.specs.Whole.{State, place_after, Whole, rows_of}
 
 -- ---- a part of the output that was lent
 
@@ -26,46 +27,24 @@ pub part_same : (o : List ℕ) (at : ℕ) {p : List ℕ} → p ≡ drop at o →
 part_same o at {p} e = part-back o p at ∙ ap (λ (x : List ℕ). take at o ++ x) e ∙ take-append-drop at o
 
 -- ---- the records that are left
-module _ (records : List ℕ) where
-  -- those behind the first n
-  abbrev pub left : ℕ → List (List ℕ)
-  left n = pieces (length records / record_length - n) (drop (record_length * n) records)
-
-  pub left-first : left 0 ≡ records_of records
-  left-first = let e : length records / record_length - 0 ≡ length records / record_length = omega arith in ap (λ (k : ℕ). pieces k records) e
-
-  module _ (n : ℕ) where
-    -- the next one
-    abbrev pub record_at : List ℕ
-    record_at = take (record_length * n + record_length - record_length * n) (drop (record_length * n) records)
-
-    left-next : record_length ≤ length records - record_length * n → left n ≡ record_at ∷ left (n + 1)
-    left-next h =
-        let k : length records / record_length - n ≡ suc (length records / record_length - (n + 1)) = omega arith in
-        let z : record_length ≡ record_length * n + record_length - record_length * n = omega arith in
-        let d : record_length * n + record_length ≡ record_length * (n + 1) = omega arith in
-        let r : drop record_length (drop (record_length * n) records) ≡ drop (record_length * (n + 1)) records =
-        drop-drop record_length (record_length * n) records ∙ ap (λ (j : ℕ). drop j records) d in
-        ap (λ (j : ℕ). pieces j (drop (record_length * n) records)) k
-        ∙ ap (λ (l : List ℕ). take record_length (drop (record_length * n) records) ∷ pieces (length records / record_length - (n + 1)) l) r
-        ∙ ap (λ (j : ℕ). take j (drop (record_length * n) records) ∷ left (n + 1)) z
-
-    left-none : length records - record_length * n < record_length → left n ≡ []
-    left-none h = let k : length records / record_length - n ≡ 0 = omega arith in ap (λ (j : ℕ). pieces j (drop (record_length * n) records)) k
+-- the records are the slice's arrays
+pub pieces-are : (k : ℕ) (s : List ℕ) → pieces k s ≡ first_chunks record_length k s
+pieces-are zero s = refl
+pieces-are (suc k) s = ap (λ (l : List (List ℕ)). take record_length s ∷ l) (pieces-are k (drop record_length s))
 
 -- ---- a turn of the loop, and its ends
-module _ (step : State → List ℕ → Option State) (records : List ℕ) (n : ℕ) (s : State) {w : Whole} (e : rows_of step n (left records n) s ≡ w) where
-  pub run_ends : length records - record_length * n < record_length → w ≡ record { rows = n; output = s.output }
-  run_ends h = sym e ∙ rw (left-none records n h) refl
+module _ (step : State → List ℕ → Option State) (whole : List (List ℕ)) (n : ℕ) (s : State) {w : Whole} (e : rows_of step n (drop n whole) s ≡ w) where
+  pub run_ends : length whole ≤ n → w ≡ record { rows = n; output = s.output }
+  run_ends h = sym e ∙ rw (drop_of_length-le whole h) refl
 
-  module _ (h : record_length ≤ length records - record_length * n) where
-    pub run-goes : {u : State} → step s (record_at records n) ≡ some u → rows_of step (n + 1) (left records (n + 1)) u ≡ w
+  module _ (d : List ℕ) (h : n < length whole) where
+    pub run-goes : {u : State} → step s (get_or whole n d) ≡ Some u → rows_of step (n + 1) (drop (n + 1) whole) u ≡ w
     run-goes {u} f =
-        let t : rows_of step n (left records n) s ≡ rows_of step (suc n) (left records (n + 1)) u = rw (left-next records n h, f) refl in
-        ap (λ (k : ℕ). rows_of step k (left records (n + 1)) u) (add-one n) ∙ sym t ∙ e
+        let t : rows_of step n (drop n whole) s ≡ rows_of step (suc n) (drop (suc n) whole) u = rw (drop-cons whole n d h, f) refl in
+        ap (λ (k : ℕ). rows_of step k (drop k whole) u) (add-one n) ∙ sym t ∙ e
 
-    pub run-stops : step s (record_at records n) ≡ none → {o : List ℕ} → o ≡ s.output → w ≡ record { rows = n; output = o }
-    run-stops f {o} g = sym e ∙ rw (left-next records n h, f, g) refl
+    pub run-stops : step s (get_or whole n d) ≡ None → {o : List ℕ} → o ≡ s.output → w ≡ record { rows = n; output = o }
+    run-stops f {o} g = sym e ∙ rw (drop-cons whole n d h, f, g) refl
 
 -- ---- a row's place, by whether the rows are kept
 pub place_kept : (kept : Bool) (from n : ℕ) → kept ≡ true → from + n ≡ place_after kept from n

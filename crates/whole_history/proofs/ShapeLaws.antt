@@ -5,17 +5,18 @@ use mathlib.Core.Bool.{Bool, true, false}
 use mathlib.Core.List.{List, [], ◌∷◌, ◌++◌, append_assoc, append-nil}
 use native.Mathlib.Numerals.{add-one}
 use native.Mathlib.Omega.{arith}
-use borrow.Author.Tests.{leb-true, leb-false, ltb-true, ltb-false}
-use lib.Dec.{ltb, leb}
-use lib.ListN.{length, get_or, take, drop, length-append, length-take, drop_of_length-le}
-use lib.Seq.{take_all, take-suc, length-take-le, drop-append-add, drop-drop, drop-cons}
+use borrow.Author.Tests.{ltb-true, ltb-false}
+use lib.Dec.{ltb}
+use lib.ListN.{length, get_or, take, drop, length-append, length-take}
+use lib.Seq.{take_all, take-suc, length-take-le, drop-append-add, drop-drop}
+use Rattle.std.specs.Prelude.{Some}
 use Rattle.column.specs.Columns.{column_limit}
 use Rattle.render.specs.declared.types.Cell.{Cell}
 use Rattle.render.specs.declared.types.RowShape.{RowShape}
 use Rattle.slices.specs.Joins.{joins, over, Writes}
 use Rattle.slices.proofs.JoinLaws.{joins-append}
-use Rattle.slices.proofs.OverLaws.{part-written, writes-all, writes-none, wrote, part_room}
-use Rattle.whole_history.specs.Shapes.{cell_bytes, head_bytes, shape_bytes, node_bytes}
+use Rattle.slices.proofs.OverLaws.{part-written, wrote, part_room}
+use Rattle.whole_history.specs.Shapes.{cell_bytes, head_bytes, shape_bytes, Puts}
 
 -- a shape's array has 64 cells
 pub cells-long : (l : List Cell) → length l ≡ 64 → length l ≡ column_limit
@@ -29,9 +30,6 @@ head-length g = refl
 pub cell-length : (c : Cell) → length (cell_bytes c) ≡ 8
 unfolding cell_bytes
 cell-length c = refl
-
-pub shape-some : (g : RowShape) → 0 < length (shape_bytes g)
-shape-some g = rw (length-append (head_bytes g) (joins cell_bytes (take g.width g.cells)), head-length g) (omega arith)
 
 cells-length : (l : List Cell) → length (joins cell_bytes l) ≡ 8 * length l
 cells-length [] = refl
@@ -85,16 +83,17 @@ module _ (g : RowShape) where
           rw (length-append (head_bytes g) (joins cell_bytes (take g.width g.cells)), head-length g, cells-length (take g.width g.cells), length-take g.width g.cells)
           (omega arith)
 
-      pub no_room : (d : List ℕ) → length d < 12 + 8 * w → Writes (shape_bytes g) d d 0
-      no_room d h =
-          writes-none (shape_bytes g) d d 0 (omega (arith, shape-length)) refl refl
+      pub no_room : (d : List ℕ) → length d < 12 + 8 * w → length d < length (shape_bytes g)
+      no_room d h = omega (arith, shape-length)
 
       pub shape-done : (i : ℕ) (d : List ℕ) {h o bs : List ℕ} {r : ℕ} → bs ≡ head_bytes g → Writes bs d h r → o ≡ over (up_to g i) h → i ≡ w → 12 + 8 * w ≤ length d
-          → Writes (shape_bytes g) d o (12 + 8 * w)
+          → Puts (shape_bytes g) d o (Some (12 + 8 * w))
       shape-done i d {h} {o} b e f k r =
-          let p : h ≡ over (head_bytes g) d = head-written d b e (omega arith) in
-          writes-all (shape_bytes g) d o (12 + 8 * w) (omega (arith, shape-length)) (sym shape-length)
-          (f ∙ rw p (over-more (head_bytes g) (joins cell_bytes (take i g.cells)) d) ∙ ap (λ (x : List Cell). over (head_bytes g ++ joins cell_bytes x) d) all)
+          let p : h ≡ over (head_bytes g) d = head-written d b e (omega arith) in (
+            omega (arith, shape-length),
+            sym shape-length,
+            f ∙ rw p (over-more (head_bytes g) (joins cell_bytes (take i g.cells)) d) ∙ ap (λ (x : List Cell). over (head_bytes g ++ joins cell_bytes x) d) all,
+          )
         where
           all : take i g.cells ≡ take g.width g.cells
           all = go (ltb g.width column_limit) refl
@@ -107,31 +106,3 @@ module _ (g : RowShape) where
               go false q =
                   let z : column_limit ≤ g.width = ltb-false g.width column_limit q in
                   take_all i g.cells (omega arith) ∙ sym (take_all g.width g.cells (omega arith))
-
--- ---- bytes that were put, or were not
-module _ {bs before after : List ℕ} {r : ℕ} (p : Writes bs before after r) where
-  pub put-none : r ≡ 0 → 0 < length bs → (length before < length bs) × (after ≡ before)
-  put-none e h = go (leb (length bs) (length before)) refl
-    where
-      go : (t : Bool) → leb (length bs) (length before) ≡ t → (length before < length bs) × (after ≡ before)
-      go true q = absurd (omega (arith, rw q at p.count))
-      go false q = (leb-false (length bs) (length before) q, rw q at p.output)
-
-  pub put-done : (r ≡ 0 → ⊥) → (length bs ≤ length before) × (r ≡ length bs) × (after ≡ over bs before)
-  put-done z = go (leb (length bs) (length before)) refl
-    where
-      go : (t : Bool) → leb (length bs) (length before) ≡ t → (length bs ≤ length before) × (r ≡ length bs) × (after ≡ over bs before)
-      go true q = (leb-true (length bs) (length before) q, rw q at p.count, rw q at p.output)
-      go false q = absurd (z (rw q at p.count))
-
--- ---- the node's cell
-module _ (g : RowShape) (long : length g.cells ≡ column_limit) where
-  pub node-cell : (z : Cell) → g.node_column < column_limit → node_bytes g ≡ cell_bytes (get_or g.cells g.node_column z)
-  node-cell z h =
-      let k : g.node_column < length g.cells = omega arith in
-      rw (drop-cons g.cells g.node_column z k) (append-nil (cell_bytes (get_or g.cells g.node_column z)))
-
-  pub node-none : column_limit ≤ g.node_column → node_bytes g ≡ []
-  node-none h =
-      let k : length g.cells ≤ g.node_column = omega arith in
-      rw (drop_of_length-le g.cells k) refl

@@ -1,12 +1,12 @@
 -- The bytes of a row shape and of a preview, as bench compares them: of a shape 12 of the row, then 8 of each cell; of a preview 3.
-use Rattle.std.specs.Prelude.{ℕ, ◌/◌, ◌%◌, Bool, cond, List, [], ◌∷◌, ◌++◌, take, drop}
+use Rattle.std.specs.Prelude.{ℕ, ◌/◌, ◌%◌, ◌<◌, ◌≤◌, ◌≡◌, Bool, cond, List, [], ◌∷◌, ◌++◌, length, take, drop, Option, Some, None}
 use Rattle.render.specs.declared.render.NodeLine.{NodeLine}
 use Rattle.render.specs.declared.render.NodeLine.TheVariants.{Blank as NodeBlank, Ancestor as NodeAncestor, Parent as NodeParent, Node}
 use Rattle.render.specs.declared.render.PadLine.{PadLine}
 use Rattle.render.specs.declared.render.PadLine.TheVariants.{Blank, Ancestor, Parent}
 use Rattle.render.specs.declared.types.Cell.{Cell}
 use Rattle.render.specs.declared.types.RowShape.{RowShape}
-use Rattle.slices.specs.Joins.{joins}
+use Rattle.slices.specs.Joins.{joins, over}
 
 -- 1 where it holds
 abbrev pub flag : Bool → ℕ
@@ -48,6 +48,16 @@ shape_bytes g = head_bytes g ++ joins cell_bytes (take g.width g.cells)
 abbrev pub node_bytes : RowShape → List ℕ
 node_bytes g = joins cell_bytes (take 1 (drop g.node_column g.cells))
 
+-- a shape if the rows are kept, else the cell of its node alone
+abbrev pub row_bytes : Bool → RowShape → List ℕ
+row_bytes kept g = cond kept (shape_bytes g) (node_bytes g)
+
 -- a preview: the node's column, the width of its line, and the count of columns afterwards
 abbrev pub preview_bytes : ℕ → ℕ → ℕ → List ℕ
 preview_bytes column width count = column % 0x100 ∷ width % 0x100 ∷ count % 0x100 ∷ []
+
+-- what a writer of a row's bytes promises: where they fit, their count, and that they are written over the start of the output; else nothing, and
+-- the output as it was
+abbrev pub Puts : List ℕ → List ℕ → List ℕ → Option ℕ → Type 0
+Puts bytes out out' (Some n) = (length bytes ≤ length out) × (n ≡ length bytes) × (out' ≡ over bytes out)
+Puts bytes out out' None = (length out < length bytes) × (out' ≡ out)

@@ -1,7 +1,5 @@
 -- Whole histories, as bench runs them: the text call, the row call, the preview, or the row call and the renderer call on every record, one after the other.
-use Rattle.std.specs.Prelude.{ℕ, suc, ◌+◌, ◌/◌, min, Bool, cond, ◌&&◌, List, [], ◌∷◌, ◌++◌, map, eqb, leb, length, get_or, take, drop}
-use Rattle.std.proofs.Math.Option.{Option, none, some}
-use Rattle.column.specs.declared.Found.TheVariants.{At}
+use Rattle.std.specs.Prelude.{ℕ, suc, ◌+◌, ◌/◌, ◌≤◌, ◌≡◌, min, Bool, cond, ◌&&◌, List, [], ◌∷◌, ◌++◌, map, eqb, leb, length, get_or, take, drop, Option, Some, None}
 use Rattle.render.specs.declared.render.Ancestor.{Ancestor as Entry}
 use Rattle.render.specs.Entries.{entry_limit}
 use Rattle.shaper.specs.Shaper.{View, view_after}
@@ -15,7 +13,7 @@ use Rattle.output.specs.Output.{TextView}
 use Rattle.text.specs.Text.{TextReply, text}
 use Rattle.record.specs.Record.{record_length, pieces, id_at, mark_of, parent_count, written_from, entry_of}
 use Rattle.steps.specs.Steps.{beginning}
-use Rattle.whole_history.specs.Shapes.{shape_bytes, node_bytes, preview_bytes}
+use Rattle.whole_history.specs.Shapes.{row_bytes, preview_bytes}
 
 -- ---- what is read
 
@@ -55,65 +53,91 @@ pub record Whole : Type 0 where
 
 -- on with what there is, or the end
 abbrev pub onward : {A B : Type 0} → Option A → (A → B) → B → B
-onward none f b = b
-onward (some a) f b = f a
+onward None f b = b
+onward (Some a) f b = f a
 
 -- a row for each record, n so far; the first one for which the step gives nothing is the end
 abbrev pub rows_of : (State → List ℕ → Option State) → ℕ → List (List ℕ) → State → Whole
 rows_of step n [] s = record { rows = n; output = s.output }
 rows_of step n (b ∷ bs) s = onward (step s b) (rows_of step (suc n) bs) (record { rows = n; output = s.output })
 
+-- ---- a record's turn
+
+-- what is made of a record: both states after it, the count of its row's bytes, and what was lent of the output, with the row at its start
+pub record Turned : Type 0 where
+  pub view : View
+  pub text : TextView
+  pub length : ℕ
+  pub output : List ℕ
+
+-- what a turn makes of both states, a record, and the rest of the output; nothing where there is no row
+abbrev pub Turn : Type 0
+Turn = View → TextView → List ℕ → List ℕ → Option Turned
+
+-- a row at its place in the output
+abbrev pub placed : Bool → State → Turned → State
+placed kept s t = record { view = t.view; text = t.text; from = place_after kept s.from t.length; output = take s.from s.output ++ t.output }
+
+-- a turn as a step: its row at its place
+abbrev pub step_of : Turn → Bool → State → List ℕ → Option State
+step_of turn kept s b = onward (turn s.view s.text b (drop s.from s.output)) (λ (t : Turned). Some (placed kept s t)) None
+
+-- what a turn in code promises, where the definition makes this of the record: the row at the start of what was lent of the output, with the
+-- count of its bytes; or nothing, and the output as it was
+abbrev pub Makes : Option Turned → View → TextView → List ℕ → List ℕ → Option ℕ → Type 0
+Makes made v t out out' (Some n) = (made ≡ Some (record { view = v; text = t; length = n; output = out' })) × (n ≤ length out')
+Makes made v t out out' None = (made ≡ None) × (out' ≡ out)
+
+-- a turn for each record
+abbrev pub whole_of : Turn → List ℕ → Bool → List ℕ → Whole
+whole_of turn records kept out = rows_of (step_of turn kept) 0 (records_of records) (start out)
+
 -- ---- the calls
 
 -- the text call on a record, with the message in the place of the record's own; nothing where it is refused
-abbrev pub text_step : Renderer → Bool → List ℕ → State → List ℕ → Option State
-text_step q kept message s b =
-    let r : TextReply = text s.view s.text q (id_at b 0) (entries_of b) (mark_of b) message (drop s.from s.output) in
-    cond (eqb r.refusal 0)
-    (some (record { view = r.view; text = r.text; from = place_after kept s.from r.length; output = take s.from s.output ++ r.output }))
-    none
+abbrev pub text_turn : Renderer → List ℕ → Turn
+text_turn q message v t b room =
+    let r : TextReply = text v t q (id_at b 0) (entries_of b) (mark_of b) message room in
+    cond (eqb r.refusal 0) (Some (record { view = r.view; text = r.text; length = r.length; output = r.output })) None
 
--- some bytes of a row into the output, with the view after the row; nothing where the row's refusal is not 0 or there is no room for them
-abbrev pub put_step : Bool → State → ℕ → View → List ℕ → Option State
-put_step kept s refusal v bytes =
-    let room : List ℕ = drop s.from s.output in
+-- some bytes of a row, with the view after the row; nothing where the row's refusal is not 0 or there is no room for them
+abbrev pub put_turn : ℕ → View → TextView → List ℕ → List ℕ → Option Turned
+put_turn refusal v t bytes room =
     cond (eqb refusal 0 && leb (length bytes) (length room))
-    (some (record { view = v; text = s.text; from = place_after kept s.from (length bytes); output = take s.from s.output ++ over bytes room }))
-    none
+    (Some (record { view = v; text = t; length = length bytes; output = over bytes room }))
+    None
 
 -- the row call on a record, and the bytes of its shape, or of its node's cell alone
-abbrev pub shape_step : Bool → State → List ℕ → Option State
-shape_step kept s b =
-    let r : RowReply = row s.view (id_at b 0) (entries_of b) in
-    put_step kept s r.refusal r.view (cond kept (shape_bytes r.shape) (node_bytes r.shape))
+abbrev pub shape_turn : Bool → Turn
+shape_turn kept v t b room =
+    let r : RowReply = row v (id_at b 0) (entries_of b) in
+    put_turn r.refusal r.view t (row_bytes kept r.shape) room
 
 -- the preview of a record's row, and its bytes; the view after it is made of what the preview gave
-abbrev pub preview_step : Bool → State → List ℕ → Option State
-preview_step kept s b =
-    let r : PreviewReply = preview s.view (id_at b 0) (entries_of b) in
-    put_step kept s r.refusal (view_after s.view r.columns r.origins (At r.column)) (preview_bytes r.column r.width (length r.columns))
+abbrev pub preview_turn : Turn
+preview_turn v t b room =
+    let r : PreviewReply = preview v (id_at b 0) (entries_of b) in
+    put_turn r.refusal (view_after v r.columns r.origins (Some r.column)) t (preview_bytes r.column r.width (length r.columns)) room
 
 -- the row call on a record and the renderer call on its shape, with the record's mark; nothing where either is refused
-abbrev pub lines_step : Renderer → Bool → State → List ℕ → Option State
-lines_step q kept s b =
-    let r : RowReply = row s.view (id_at b 0) (entries_of b) in
-    let a : Answer = next_prefix_lines r.shape q (mark_of b) (drop s.from s.output) in
-    cond (eqb r.refusal 0 && eqb a.refusal 0)
-    (some (record { view = r.view; text = s.text; from = place_after kept s.from a.length; output = take s.from s.output ++ a.output }))
-    none
+abbrev pub lines_turn : Renderer → Turn
+lines_turn q v t b room =
+    let r : RowReply = row v (id_at b 0) (entries_of b) in
+    let a : Answer = next_prefix_lines r.shape q (mark_of b) room in
+    cond (eqb r.refusal 0 && eqb a.refusal 0) (Some (record { view = r.view; text = t; length = a.length; output = a.output })) None
 
 -- the texts of a whole history
 unfoldable pub whole_text : List ℕ → List ℕ → ℕ → Bool → List ℕ → Whole
-whole_text records message renderer kept out = rows_of (text_step (renderer_of renderer) kept message) 0 (records_of records) (start out)
+whole_text records message renderer kept out = whole_of (text_turn (renderer_of renderer) message) records kept out
 
 -- the shapes of a whole history
 unfoldable pub whole_shapes : List ℕ → Bool → List ℕ → Whole
-whole_shapes records kept out = rows_of (shape_step kept) 0 (records_of records) (start out)
+whole_shapes records kept out = whole_of (shape_turn kept) records kept out
 
 -- the previews of a whole history
 unfoldable pub whole_previews : List ℕ → Bool → List ℕ → Whole
-whole_previews records kept out = rows_of (preview_step kept) 0 (records_of records) (start out)
+whole_previews records kept out = whole_of preview_turn records kept out
 
 -- the prefix lines of a whole history
 unfoldable pub whole_lines : List ℕ → ℕ → Bool → List ℕ → Whole
-whole_lines records renderer kept out = rows_of (lines_step (renderer_of renderer) kept) 0 (records_of records) (start out)
+whole_lines records renderer kept out = whole_of (lines_turn (renderer_of renderer)) records kept out

@@ -1,5 +1,4 @@
 -- The first Empty column but column `skip`.
-use Prim.Native.Nat.{◌≤◌, ◌-◌}
 use mathlib.Core.Path.{◌≡◌}
 use lib.ListN.{drop, set}
 use Rattle.column.specs.Columns.{live, first, is_empty}
@@ -8,7 +7,4 @@ use Rattle.column.specs.declared.Column.TheVariants.{Blocked}
 use Rattle.column.proofs.first_other_empty.Given as goal
 
 abbrev pub invariant-loop-place : goal.invariant-loop-place
-invariant-loop-place l = (l.place ≤ l.n) × (first is_empty (set (live l.count l.slots) l.skip Blocked) ≡ later l.place (first is_empty (drop l.place (set (live l.count l.slots) l.skip Blocked))))
-
-abbrev pub decreases-loop-place : goal.decreases-loop-place
-decreases-loop-place l = l.n - l.place
+invariant-loop-place l = (first is_empty (set (live l.count l.fn.slots) l.skip Blocked) ≡ later l.place (first is_empty (drop l.place (set (live l.count l.fn.slots) l.skip Blocked))))

@@ -1,19 +1,16 @@
--- One more entry is copied in each turn, and at the end all are.
-use Rattle.std.proofs.Common.{ap, sym, ◌∙◌, ◌<◌, arith, length, get_or}
-use Rattle.render.specs.declared.render.Ancestor.TheVariants.{Ancestor}
-use Rattle.render.specs.declared.render.Entry.{Entry}
+-- `lineage::copy_entries` meets its contract: the entries are pushed one after the other.
+use Rattle.std.proofs.Common.{◌≡◌, ap, ◌∙◌, rules}
+use Rattle.std.specs.List.{fold}
+use Rattle.std.proofs.lemmas.Iterator.{YieldsList-from_slice}
+use Rattle.std.proofs.lemmas.Iterator.Consumers.{fold_from_yields_List}
 use Rattle.render.specs.declared.render.Entries.{Entries}
-use Rattle.render.specs.Entries.{no_entries, pushed}
-use Rattle.lineage.proofs.CopyLaws.{one_more, copied-all}
+use Rattle.render.specs.Entries.{pushed}
+use Rattle.lineage.proofs.CopyLaws.{copies}
 use Rattle.lineage.proofs.copy_entries.Goals as goal
 
-pub loop-i-preserved : goal.loop-i-preserved
-loop-i-preserved c =
-    let l = c.loop-i in
-    let ys = c.args.list.now in
-    let h : l.i < length ys = omega arith in
-    let past : Entry = record { ancestor = Ancestor 0 } in
-    (omega arith, c.push-entries.ensures ∙ ap (λ (e : Entries). pushed e (get_or ys l.i past)) l.invariant.1 ∙ sym (one_more no_entries ys l.i past h))
-
 pub returns : goal.returns
-returns c = copied-all _ _ _ c.loop-i.invariant.1 c.loop-i.invariant.0 (omega arith)
+returns c =
+    let list = c.args.list.now in
+    let e : c.fold.result ≡ fold pushed c.none.result list =
+    fold_from_yields_List _ pushed _ _ c.fold.ensures.ran (YieldsList-from_slice list (cc)) (λ a x b q k. search rules) in
+    copies list c.fold.result (e ∙ ap (λ (n : Entries). fold pushed n list) c.none.ensures)

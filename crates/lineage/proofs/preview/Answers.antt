@@ -3,4 +3,4 @@ use Rattle.lineage.proofs.LentLaws.{previewed}
 use Rattle.lineage.proofs.preview.Goals as goal
 
 pub returns : goal.returns
-returns c = previewed _ _ _ c.copy_entries-copied.result _ c.copy_entries-copied.ensures c.preview.ensures
+returns c = previewed _ _ _ c.copy_entries.result _ c.copy_entries.ensures c.preview.ensures

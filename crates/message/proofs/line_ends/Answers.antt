@@ -1,10 +1,22 @@
 -- How many of a message's lines are ended.
+use mathlib.Core.Path.{◌∙◌, ap}
 use native.Mathlib.Omega.{arith}
-use Rattle.message.proofs.MessageLaws.{block, block-long, ends-block, ends-few}
+use borrow.Author.Rules.{rules}
+use lib.ListN.{length, length-append}
+use Rattle.message.specs.Inner.{ends}
+use Rattle.message.proofs.MessageLaws.{ends-append, ends-few}
 use Rattle.message.proofs.line_ends.Goals as goal
 
-pub loop-at-preserved : goal.loop-at-preserved
-loop-at-preserved c =
-    let m = c.args.message.now in
-    let l = c.loop-at in
-    (omega arith, omega (arith, l.invariant.1, c.ends_of.ensures, ends-few (block l.at c.block_end-end.result m), block-long m l.at c.block_end-end.result (omega arith)), omega (arith, l.invariant.2, c.ends_of.ensures, ends-block m l.at c.block_end-end.result (omega arith)))
+pub loop-block-preserved : goal.loop-block-preserved
+loop-block-preserved c =
+    let l = c.loop-block in
+    let b = c.in-Some.block.now in
+    let rest = c.in-Some.ensures.steps.1.0 in
+    let e = ap ends rest ∙ ends-append b _ in
+    record {
+      can = search rules;
+      finite = tt;
+      size = search rules;
+      counted = omega (arith, l.invariant.counted, c.ends_of.ensures, e);
+      few = omega (arith, l.invariant.few, c.ends_of.ensures, ends-few b, ap length rest ∙ length-append b _);
+    }

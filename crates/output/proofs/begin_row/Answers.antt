@@ -27,7 +27,7 @@ pub returns-then-not-is_separated : goal.returns-then-not-is_separated
 returns-then-not-is_separated c =
     let f = c.flush_queued_pad_line-flushed in
     separator-none c.args.separator_line c.args.state (separated (goal.at.returns-then-not-is_separated c).After-is_one_line c.if-not-is_separated.true) _ _ _
-    (queue-measured _ _ f.result _ _ c.difference.ensures c.line_measure-measure.ensures c.args.state f.ensures)
+    (queue-measured _ _ f.result _ _ c.saturating_sub.ensures c.line_measure-measure.ensures c.args.state f.ensures)
 
 pub returns : goal.returns
 returns c =
@@ -36,4 +36,4 @@ returns c =
     let s = c.if-not-is_separated.false in
     begin-done a.separator_line a.state (separated (goal.at.returns c).After-is_one_line s) a.out.now _ _ _ _ c.push_line.result
     (fits (goal.at.returns c).Joined-is_separated s) f.auto.out
-    (queue-measured _ _ f.result _ _ c.difference.ensures c.line_measure-measure.ensures c.args.state f.ensures) c.push_line.ensures refl refl
+    (queue-measured _ _ f.result _ _ c.saturating_sub.ensures c.line_measure-measure.ensures c.args.state f.ensures) c.push_line.ensures refl refl

@@ -7,4 +7,4 @@ use Rattle.programs.proofs.write_whole.Goals as goal
 
 pub loop-at-preserved : goal.loop-at-preserved
 loop-at-preserved g c =
-    (search rules, subst (Appends _ _) (write-more _ c.in-Ok.count _) (Appends-trans _ _ _ _ _ c.loop-at.invariant.1 c.in-Ok.ensures.bytes))
+    (search rules, subst (Appends _ _) (write-more _ c.in_ok-count.count _) (Appends-trans _ _ _ _ _ c.loop-at.invariant.1 c.in_ok-count.ensures.bytes))

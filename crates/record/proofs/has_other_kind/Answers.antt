@@ -1,11 +1,15 @@
 -- Whether one of the first entries has a kind above the highest.
-use borrow.Author.Rules.{rules}
-use native.Mathlib.Omega.{arith}
-use Rattle.record.specs.Record.{kind_limit}
-use Rattle.record.proofs.RecordLaws.{above-next}
+use Rattle.std.proofs.Common.{ltb, get_or, arith, refl, rules, tests, sym, ◌∙◌}
+use Rattle.std.proofs.lemmas.Iterator.{YieldsList-from_range}
+use Rattle.std.proofs.lemmas.Iterator.Search.{any_from_yields_List}
+use Rattle.record.specs.Record.{entry_place, kind_limit}
+use Rattle.record.proofs.RecordLaws.{any-range}
 use Rattle.record.proofs.has_other_kind.Goals as goal
 
-pub loop-i-preserved : goal.loop-i-preserved
-loop-i-preserved c =
-    let l = c.loop-i in
-    (search rules, search rules, search rules, above-next _ kind_limit l.i _ l.invariant.3 (omega arith) c.if-left-i-gt-KIND_LIMIT.false)
+pub returns : goal.returns
+returns c =
+    let s = c.args.bytes.now in
+    let n = c.args.parents in
+    let all = YieldsList-from_range {s = record { start = 0; end = n }} 0 n n refl (omega arith) in
+    let found = any_from_yields_List {v = λ x. x} {s = record { start = 0; end = n }} (λ i. ltb kind_limit (get_or s (entry_place i) 0)) _ _ _ c.any.ensures.ran all (λ x b q k. search (rules, tests)) in
+    found ∙ sym (any-range s kind_limit 0 n)

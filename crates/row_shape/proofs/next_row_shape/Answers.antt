@@ -1,61 +1,57 @@
--- The row call: the walk over the entries keeps `Going` and `Carrying`, the loops over the cells keep the cells that are stored, and those that
--- end the row the slots that are filled, and what is left of the columns.
-use mathlib.Core.Path.{◌≡◌, refl, ap, sym, ◌∙◌}
+-- The row call: the walk over the entries keeps `Going` and `Carrying`, the loops over the cells keep the cells that are stored, and the one that
+-- ends the row the slots that are filled.
+use borrow.Author.Rules.{rules}
+use mathlib.Core.Path.{refl, ap, sym, ◌∙◌}
 use native.Mathlib.Omega.{arith}
-use lib.ListN.{length-set}
-use Rattle.column.specs.Columns.{is_parent, trim, live}
-use Rattle.column.proofs.Laws.{trim-turn, trim-stop, trim-done}
+use Rattle.column.specs.Columns.{is_parent}
 use Rattle.placing.proofs.EndLaws.{filling-start, filling-next, filling-done}
 use Rattle.render.specs.Entries.{given}
 use Rattle.shaper.proofs.Laws.{slots-long, entries-long}
 use Rattle.placing.proofs.PlacingLaws.{going-over, going_next, carrying-next}
-use Rattle.row_shape.proofs.NextRow.{row-too-many, row-no-column, begun, bare, row-start, row_carries, entry_next, row_walked, row-no-room, row_done, plain-next, drawing-start, drawing-next}
+use Rattle.row_shape.proofs.RowCall.{row-too-many, row-no-column, begun, bare, row-start, row_carries, entry_next, row_walked, row-no-room, row_done, left-of, plain-next, drawing-start, drawing-next}
 use Rattle.row_shape.proofs.next_row_shape.Goals as goal
-use Rattle.row_shape.proofs.next_row_shape.Goals.{else-loop-at-2-test, then-loop-at-2-test+then-not-is_empty}
 
 pub returns-then-are_too_many : goal.returns-then-are_too_many
 returns-then-are_too_many c =
     let a = c.args in
-    row-too-many a.shaper a.node a.entries _ (sym c.are_too_many.ensures ∙ c.if-are_too_many.true) c.refused_row.ensures
+    row-too-many a.shaper a.node a.entries (sym c.are_too_many.ensures ∙ c.if-are_too_many.true)
 
 pub returns-in_default : goal.returns-in_default
 returns-in_default c =
     let a = c.args in
-    row-no-column a.shaper a.node a.entries (sym c.are_too_many.ensures ∙ c.if-are_too_many.false) _ _ _ c.find-existing.ensures c.find_column.ensures c.in_default.is c.refused_row-in_default.ensures
+    row-no-column a.shaper a.node a.entries (sym c.are_too_many.ensures ∙ c.if-are_too_many.false) _ _ c.find-existing.ensures c.find_column.ensures c.in_default.is
 
-pub loop-i-init : goal.loop-i-init
-loop-i-init c =
+pub loop-entry-init : goal.loop-entry-init
+loop-entry-init c =
     let a = c.args in
-    let b = begun a.shaper a.node a.entries _ _ _ _ (sym c.are_too_many.ensures ∙ c.if-are_too_many.false) c.find-existing.ensures c.find_column.ensures c.in-At.is c.live_count-live.ensures
+    let b = begun a.shaper a.node a.entries _ _ _ _ (sym c.are_too_many.ensures ∙ c.if-are_too_many.false) c.find-existing.ensures c.find_column.ensures c.in-Some.is c.live_count-live.ensures
     (slots-long a.shaper.slots c.well_formed.0.1.1.0.1.0.1) (entries-long a.entries.list c.well_formed.1.1.0.1.1.0.1.0.1) in (
-      omega arith,
       b,
       rw (c.empty-2.ensures, c.empty.ensures)
-          (row-start a.shaper a.node a.entries _ _ _ b c.placeholder-beside.result c.count_with-count.result _ c.placeholder-beside.ensures c.count_with-count.ensures (rw c.nobody-nobody.ensures)),
+          (row-start a.shaper a.node a.entries _ _ _ b c.placeholder.result c.count_with-count.result _ c.placeholder.ensures c.count_with-count.ensures refl),
       rw (c.empty-2.ensures, c.empty.ensures)
-          (row_carries a.shaper a.node a.entries _ _ _ b c.placeholder-beside.result c.count_with-count.result c.placeholder-beside.ensures c.count_with-count.ensures),
+          (row_carries a.shaper a.node a.entries _ _ _ b c.placeholder.result c.count_with-count.result c.placeholder.ensures c.count_with-count.ensures),
     )
 
 pub returns-then-index-ge-COLUMN_LIMIT : goal.returns-then-index-ge-COLUMN_LIMIT
 returns-then-index-ge-COLUMN_LIMIT c =
-    let v = c.loop-i in
+    let v = c.loop-entry in
     let a = c.args in
-    let b = v.invariant.1 in
+    let b = v.invariant.0 in
     let bs = bare a.shaper a.node a.entries _ _ _ b in
-    let h = c.loop-i-test.true in
-    row-no-room a.shaper a.node a.entries _ _ _ b _ (going-over bs _ (given a.entries) v.i v.slots v.count v.parents v.parent_column v.need_term_line v.invariant.2 _ (entry_next a.shaper a.node a.entries _ _ _ b v.i _ h) _ c.parent_column-index.ensures c.if-index-ge-COLUMN_LIMIT.true) c.refused_row-then-index-ge-COLUMN_LIMIT.ensures
+    let h = c.loop-entry-test.true in
+    row-no-room a.shaper a.node a.entries _ _ _ b (going-over bs _ (given a.entries) v.entry-index v.slots v.count v.parents v.parent_column v.need_term_line v.invariant.1 _ (entry_next a.shaper a.node a.entries _ _ _ b v.entry-index _ h) _ c.parent_column-index.ensures c.if-index-ge-COLUMN_LIMIT.true)
 
-pub loop-i-preserved : goal.loop-i-preserved
-loop-i-preserved c =
-    let v = c.loop-i in
+pub loop-entry-preserved : goal.loop-entry-preserved
+loop-entry-preserved c =
+    let v = c.loop-entry in
     let a = c.args in
-    let b = v.invariant.1 in
+    let b = v.invariant.0 in
     let bs = bare a.shaper a.node a.entries _ _ _ b in
-    let h = c.loop-i-test.true in (
-      omega (arith, h),
+    let h = c.loop-entry-test.true in (
       b,
-      going_next bs _ (given a.entries) v.i v.slots v.count v.parents v.parent_column v.need_term_line v.invariant.2 _ (entry_next a.shaper a.node a.entries _ _ _ b v.i _ h) _ c.parent_column-index.ensures (omega (arith, c.if-index-ge-COLUMN_LIMIT.false)) _ c.count_with-count-in-loop-i.ensures _ a.node c.entered.ensures _ c.drawn_by.ensures _ c.is_anonymous-need_term_line.ensures,
-      carrying-next bs _ (given a.entries) v.i v.slots v.count v.parents v.parent_column v.need_term_line v.invariant.2 _ (entry_next a.shaper a.node a.entries _ _ _ b v.i _ h) _ c.parent_column-index.ensures (omega (arith, c.if-index-ge-COLUMN_LIMIT.false)) _ c.count_with-count-in-loop-i.ensures _ a.node c.entered.ensures _ c.drawn_by.ensures _ c.is_anonymous-need_term_line.ensures _ v.invariant.3,
+      going_next bs _ (given a.entries) v.entry-index v.slots v.count v.parents v.parent_column v.need_term_line v.invariant.1 _ (entry_next a.shaper a.node a.entries _ _ _ b v.entry-index _ h) _ c.parent_column-index.ensures (omega (arith, c.if-index-ge-COLUMN_LIMIT.false)) _ c.count_with-count-in-loop-entry.ensures _ a.node c.entered.ensures _ c.by.ensures _ c.is_anonymous-need_term_line.ensures,
+      carrying-next bs _ (given a.entries) v.entry-index v.slots v.count v.parents v.parent_column v.need_term_line v.invariant.1 _ (entry_next a.shaper a.node a.entries _ _ _ b v.entry-index _ h) _ c.parent_column-index.ensures (omega (arith, c.if-index-ge-COLUMN_LIMIT.false)) _ c.count_with-count-in-loop-entry.ensures _ a.node c.entered.ensures _ c.by.ensures _ c.is_anonymous-need_term_line.ensures _ v.invariant.2,
     )
 
 pub loop-p-preserved : goal.loop-p-preserved
@@ -69,44 +65,25 @@ loop-k-init c = drawing-start _ _ _ _ _ _ _ _ _ c.loop-p.p _ _ c.reach_start-k.e
 pub loop-k-preserved : goal.loop-k-preserved
 loop-k-preserved c =
     let v = c.loop-k in
-    drawing-next _ _ _ _ _ _ _ _ _ v.k v.cells _ _ v.invariant (omega (arith, c.loop-k-test.true, c.reach_end-end.ensures)) c.cell.ensures c.column_before-bare_column.ensures
+    drawing-next _ _ _ _ _ _ _ _ _ v.k v.cells _ _ v.invariant (omega (arith, c.loop-k-test.true, c.reach_end-end.ensures)) c.cell.ensures c.column_before-bare.ensures
 
 pub loop-at-init : goal.loop-at-init
-loop-at-init c =
-    let v = c.loop-i in
-    let a = c.args in
-    let g = row_walked a.shaper a.node a.entries _ _ _ v.invariant.1 _ _ _ _ _ _ v.invariant.2 c.loop-i-test.false in
-    (filling-start _ _ _ _ c.loop-k.invariant.fits (rw (length-set, length-set) g.long) (rw c.empty-empty.ensures), refl, refl)
+loop-at-init c = (filling-start _ _ _ _ c.loop-k.invariant.fits (search rules) (rw c.empty-3.ensures), refl, refl)
 
 pub loop-at-preserved : goal.loop-at-preserved
 loop-at-preserved c =
     let v = c.loop-at in
     (filling-next _ _ _ v.at v.next.slots _ v.invariant.0 c.loop-at-test.true c.ended.ensures, v.invariant.1, v.invariant.2)
 
-pub loop-at-2-preserved : goal.loop-at-2-preserved
-loop-at-2-preserved c =
-    let w = c.loop-at-2 in (
-      omega (arith, w.invariant.0),
-      w.invariant.1,
-      w.invariant.2,
-      trim-turn w.at _ (omega (arith, c.loop-at-2-test.true)) (omega (arith, w.invariant.0, w.invariant.1, w.invariant.2)) (sym c.is_empty.ensures ∙ c.if-not-is_empty.false) ∙ w.invariant.3,
-    )
-
 pub returns : goal.returns
 returns c =
-    let w = c.loop-at-2 in
-    let v = c.loop-i in
+    let v = c.loop-entry in
     let a = c.args in
-    let b = v.invariant.1 in
-    let g = row_walked a.shaper a.node a.entries _ _ _ b _ _ _ _ _ _ v.invariant.2 c.loop-i-test.false in
-    -- Empty columns at the end went
-    let left : live w.at c.loop-at.next.slots ≡ trim (live c.loop-at.at c.loop-at.next.slots) =
-    elim c.loop-at-2-test.branch [
-      | else-loop-at-2-test x ↦ trim-done w.at _ (omega (arith, x.loop-at-2-test.false)) ∙ w.invariant.3
-      | then-loop-at-2-test+then-not-is_empty x ↦ trim-stop w.at _ (omega (arith, x.loop-at-2-test.true)) (omega (arith, w.invariant.0, w.invariant.1, w.invariant.2)) (sym x.is_empty.ensures ∙ x.if-not-is_empty.true) ∙ w.invariant.3
-    ] in
-    row_done a.shaper a.node a.entries _ _ _ b _ _ _ _ _ g _ c.given_up-given_up.ensures _ c.or_else-other.ensures _ refl _ (rw c.nobody-nobody.ensures refl) _
+    let b = v.invariant.0 in
+    let g = row_walked a.shaper a.node a.entries _ _ _ b _ _ _ _ _ _ v.invariant.1 c.loop-entry-test.false in
+    let w = left-of v.count c.loop-at.at _ c.loop-at.next.slots (omega (arith, c.loop-at.invariant.0.upto, c.loop-at-test.false)) (omega (arith, c.loop-at.invariant.0.fits, c.loop-at.invariant.0.filled.long)) c.trimmed.ensures.within c.trimmed.ensures.left in
+    row_done a.shaper a.node a.entries _ _ _ b _ _ _ _ _ g _ c.given_up-given_up.ensures _ c.unwrap_or-other.ensures _ c.swap.ensures.after _ (rw (c.replace.ensures.after, c.replace.ensures.value) refl) _
     (c.is_parent.ensures ∙ ap is_parent c.column_before-old.ensures) _ c.new-bounds.ensures _ c.need_link_line-need_link_line.ensures _ c.loop-k.k
     (omega (arith, c.loop-k-test.false, c.reach_end-end.ensures)) c.loop-k.invariant _ _ c.is_head-is_head.ensures c.separator_line-separator_line.ensures _
-    (filling-done _ _ _ c.loop-at.at c.loop-at.next.slots _ w.at _ _ c.loop-at.invariant.0 c.loop-at-test.false refl refl c.loop-at.invariant.1 c.loop-at.invariant.2 refl w.invariant.0 left)
-    v.invariant.3
+    (filling-done _ _ _ c.loop-at.at c.loop-at.next.slots _ _ _ _ c.loop-at.invariant.0 c.loop-at-test.false refl refl c.loop-at.invariant.1 c.loop-at.invariant.2 refl w.0 w.1)
+    v.invariant.2

@@ -1,6 +1,6 @@
 -- The width call.
+use borrow.Author.Rules.{rules}
 use mathlib.Core.Path.{sym, ◌∙◌}
-use Rattle.shaper.proofs.Laws.{slots-long}
 use Rattle.width.proofs.WidthLaws.{width-refused, width-done}
 use Rattle.width.proofs.width.Goals as goal
 
@@ -12,4 +12,6 @@ returns-then-are_too_many c =
 pub returns : goal.returns
 returns c =
     let a = c.args in
-    width-done a.shaper a.node a.entries (sym c.are_too_many.ensures ∙ c.if-are_too_many.false) (slots-long a.shaper.slots c.well_formed.0.1.1.0.1.0.1) _ _ c.room_for-room.result _ _ _ c.live_count.ensures c.empty_columns.ensures.0 c.room_for-room.ensures.0 c.unallocated_parents-unallocated.ensures.0 c.saturating_sub-beyond.ensures c.saturating_sub.ensures
+    width-done a.shaper a.node a.entries (sym c.are_too_many.ensures ∙ c.if-are_too_many.false) (search rules) c.live_count-n.result c.empty_columns.result c.for_node-room.result
+    c.unallocated_parents-unallocated.result c.saturating_sub-beyond.result c.saturating_sub.result c.live_count-n.ensures c.empty_columns.ensures c.for_node-room.ensures.left
+    c.unallocated_parents-unallocated.ensures c.saturating_sub-beyond.ensures c.saturating_sub.ensures

@@ -1,6 +1,7 @@
 -- The glyphs of a renderer: with a mark in its place they are, counted out, the ones that a table is to hold.
 use Prim.Native.Nat.{ℕ}
 use mathlib.Core.Path.{◌≡◌, refl, sym, subst}
+use mathlib.Core.Logic.{◌⊎◌, inl, inr}
 use mathlib.Core.List.{List, []}
 use lib.ListN.{length, get_or}
 use Rattle.glyphs.specs.declared.Renderer.TheVariants.{Ascii, AsciiLarge, Square, Curved, Dec}
@@ -15,13 +16,15 @@ holds_of : (p q : Renderer) (t : List ℕ) (m : ℕ) → p ≡ q → length t �
     → glyph_at t n ≡ get_or (box_table (glyphs_of p) m) n []
 holds_of p q t m e h f n = subst (λ (x : Renderer). glyph_at t n ≡ get_or (box_table (glyphs_of x) m) n []) (sym e) (holds t 16 (box_table (glyphs_of q) m) h f n)
 
+none_of : (p : Renderer) (t : List ℕ) (m : ℕ) → (p ≡ Ascii) ⊎ (p ≡ AsciiLarge) → length t ≡ 144 → counted (placed t) 0 16 ≡ box_table (glyphs_of Ascii) m → (n : ℕ)
+    → glyph_at t n ≡ get_or (box_table (glyphs_of p) m) n []
+unfolding glyphs_of
+none_of p t m (inl e) h f = holds_of p Ascii t m e h f
+none_of p t m (inr e) h f = holds_of p AsciiLarge t m e h f
+
 pub returns-in-Ascii : goal.returns-in-Ascii
 unfolding glyphs_of
-returns-in-Ascii c m = holds_of _ Ascii _ m c.in-Ascii.is refl refl
-
-pub returns-in-AsciiLarge : goal.returns-in-AsciiLarge
-unfolding glyphs_of
-returns-in-AsciiLarge c m = holds_of _ AsciiLarge _ m c.in-AsciiLarge.is refl refl
+returns-in-Ascii c m = none_of _ _ m c.in-Ascii.is refl refl
 
 pub returns-in-Square : goal.returns-in-Square
 unfolding glyphs_of

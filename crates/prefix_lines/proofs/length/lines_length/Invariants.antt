@@ -1,5 +1,5 @@
 -- The length of a row's lines.
-use Prim.Native.Nat.{◌≤◌, ◌-◌}
+use Prim.Native.Nat.{◌≤◌}
 use mathlib.Core.Path.{◌≡◌}
 use lib.ListN.{length, take}
 use Rattle.column.specs.Columns.{column_limit}
@@ -8,8 +8,5 @@ use Rattle.slices.specs.Joins.{joins}
 use Rattle.prefix_lines.specs.Inner.{drawn_line}
 use Rattle.prefix_lines.proofs.length.lines_length.Given as goal
 
-abbrev pub invariant-loop-k : goal.invariant-loop-k
-invariant-loop-k l = (l.k ≤ 9) × (l.drawing.width ≤ column_limit) × (l.count ≡ length (joins (drawn_line l.frame l.table l.drawing) (take l.k all_lines)))
-
-abbrev pub decreases-loop-k : goal.decreases-loop-k
-decreases-loop-k l = 9 - l.k
+abbrev pub invariant-loop-line : goal.invariant-loop-line
+invariant-loop-line l = (l.drawing.width ≤ column_limit) × (l.count ≡ length (joins (drawn_line l.frame l.table l.drawing) (take l.line-index all_lines)))

@@ -1,5 +1,5 @@
 -- Writes a row's lines, and gives the count of their bytes.
-use Prim.Native.Nat.{◌≤◌, ◌-◌}
+use Prim.Native.Nat.{◌≤◌}
 use mathlib.Core.Path.{◌≡◌}
 use lib.ListN.{length, take}
 use Rattle.column.specs.Columns.{column_limit}
@@ -8,12 +8,9 @@ use Rattle.slices.specs.Joins.{joins, over}
 use Rattle.prefix_lines.specs.Inner.{drawn_line, drawn_lines}
 use Rattle.prefix_lines.proofs.writer.write_lines.Given as goal
 
-abbrev pub invariant-loop-k : goal.invariant-loop-k
-invariant-loop-k l =
-    (l.k ≤ 9) × (length (drawn_lines l.frame l.table l.drawing) ≤ length l.initial.out) × (length l.out ≡ length l.initial.out)
+abbrev pub invariant-loop-line : goal.invariant-loop-line
+invariant-loop-line l =
+    (length (drawn_lines l.frame l.table l.drawing) ≤ length l.initial.out) × (length l.out ≡ length l.initial.out)
     × (length l.numbers ≡ column_limit)
-    × (l.at ≡ length (joins (drawn_line l.frame l.table l.drawing) (take l.k all_lines)))
-    × (l.out ≡ over (joins (drawn_line l.frame l.table l.drawing) (take l.k all_lines)) l.initial.out)
-
-abbrev pub decreases-loop-k : goal.decreases-loop-k
-decreases-loop-k l = 9 - l.k
+    × (l.at ≡ length (joins (drawn_line l.frame l.table l.drawing) (take l.line-index all_lines)))
+    × (l.out ≡ over (joins (drawn_line l.frame l.table l.drawing) (take l.line-index all_lines)) l.initial.out)

@@ -1,49 +1,50 @@
--- `write_next_text` meets its contract: one law for each way out. The places: m after the mark is tested, r after the row call, h after the height is read, w after the text is written.
+-- `write_next_text` meets its contract: one law for each way out.
 use mathlib.Core.Path.{refl, sym, ◌∙◌}
 use native.Mathlib.Omega.{arith}
-use Rattle.text.proofs.CallLaws.{mark-refused, long-refused, byte-refused, row-refused, room-refused, accepted, accepted-width}
+use Rattle.text.proofs.CallLaws.{mark-refused, long-refused, byte-refused, row-refused, room-refused, accepted, accepted-width, number-some, handed-on}
 use Rattle.text.proofs.graph_text_renderer.write_next_text.Goals as goal
 
 pub returns-then-not-is_mark : goal.returns-then-not-is_mark
 returns-then-not-is_mark c =
     let a = c.args in
-    mark-refused a.shaper a.state a.renderer a.node a.entries a.mark a.message.now a.out.now _ (sym c.is_mark.ensures ∙ c.if-not-is_mark.true) c.refused.ensures
+    mark-refused a.shaper a.state a.renderer a.node a.entries a.mark a.message.now a.out.now _ (sym c.is_mark.ensures ∙ c.if-not-is_mark.true) refl
 
 pub returns-then-message-gt-MESSAGE_LIMIT : goal.returns-then-message-gt-MESSAGE_LIMIT
 returns-then-message-gt-MESSAGE_LIMIT c =
     let a = c.args in
-    long-refused a.shaper a.state a.renderer a.node a.entries a.mark a.message.now a.out.now (sym c.is_mark.ensures ∙ c.if-not-is_mark.false) _ c.if-message-gt-MESSAGE_LIMIT.true c.refused-then-message-gt-MESSAGE_LIMIT.ensures
+    long-refused a.shaper a.state a.renderer a.node a.entries a.mark a.message.now a.out.now (sym c.is_mark.ensures ∙ c.if-not-is_mark.false) _ c.if-message-gt-MESSAGE_LIMIT.true refl
 
 pub returns-then-not-are_writable : goal.returns-then-not-are_writable
 returns-then-not-are_writable c =
     let a = c.args in
-    byte-refused a.shaper a.state a.renderer a.node a.entries a.mark a.message.now a.out.now (sym c.is_mark.ensures ∙ c.if-not-is_mark.false) c.if-message-gt-MESSAGE_LIMIT.false _ (sym c.are_writable.ensures ∙ c.if-not-are_writable.true) c.refused-then-not-are_writable.ensures
+    byte-refused a.shaper a.state a.renderer a.node a.entries a.mark a.message.now a.out.now (sym c.is_mark.ensures ∙ c.if-not-is_mark.false) c.if-message-gt-MESSAGE_LIMIT.false _ (sym c.are_writable.ensures ∙ c.if-not-are_writable.true) refl
 
-pub returns-then-given-ne-ACCEPTED : goal.returns-then-given-ne-ACCEPTED
-returns-then-given-ne-ACCEPTED c =
+pub returns-in_err-given : goal.returns-in_err-given
+returns-in_err-given c =
     let a = c.args in
     let good = sym c.is_mark.ensures ∙ c.if-not-is_mark.false in
     let writable = sym c.are_writable.ensures ∙ c.if-not-are_writable.false in
-    row-refused a.shaper a.state a.renderer a.node a.entries a.mark a.message.now a.out.now good c.if-message-gt-MESSAGE_LIMIT.false writable c.next_row_shape-given.result c.next_row_shape-given.ensures _ c.if-given-ne-ACCEPTED.true c.refused-then-given-ne-ACCEPTED.ensures
+    let e = c.in_err-given in
+    row-refused a.shaper a.state a.renderer a.node a.entries a.mark a.message.now a.out.now good c.if-message-gt-MESSAGE_LIMIT.false writable _ e.ensures _ (number-some e.field-0.0)
+    (handed-on a.shaper a.state a.renderer a.node a.entries a.mark a.message.now a.out.now c.from_residual.result e.field-0.0 c.from_residual.ensures.1)
 
-pub write_row_text-written-requires : goal.write_row_text-written-requires
-write_row_text-written-requires c =
+pub write_row_text-requires-clause-width_le_column_limit : goal.write_row_text-requires-clause-width_le_column_limit
+write_row_text-requires-clause-width_le_column_limit c =
     let a = c.args in
-    record {
-      width_le_column_limit = (accepted-width a.shaper a.node a.entries c.next_row_shape-given.result c.next_row_shape-given.ensures c.if-given-ne-ACCEPTED.false, c.if-message-gt-MESSAGE_LIMIT.false, omega (arith, c.min_row_height-height.ensures));
-      mark_value = (sym c.is_mark.ensures ∙ c.if-not-is_mark.false, sym c.are_writable.ensures ∙ c.if-not-are_writable.false);
-    }
+    (accepted-width a.shaper a.node a.entries _ c.in_ok-given.ensures refl, c.if-message-gt-MESSAGE_LIMIT.false, omega (arith, c.min_row_height-height.ensures))
 
-pub returns-then-written-ne-ACCEPTED : goal.returns-then-written-ne-ACCEPTED
-returns-then-written-ne-ACCEPTED c =
+pub returns-in_err-written : goal.returns-in_err-written
+returns-in_err-written c =
     let a = c.args in
     let good = sym c.is_mark.ensures ∙ c.if-not-is_mark.false in
     let writable = sym c.are_writable.ensures ∙ c.if-not-are_writable.false in
-    room-refused a.shaper a.state a.renderer a.node a.entries a.mark a.message.now a.out.now good c.if-message-gt-MESSAGE_LIMIT.false writable c.next_row_shape-given.result c.next_row_shape-given.ensures c.if-given-ne-ACCEPTED.false c.min_row_height-height.result c.min_row_height-height.ensures _ c.write_row_text-written.result c.write_row_text-written.ensures _ c.if-written-ne-ACCEPTED.true c.refused-then-written-ne-ACCEPTED.ensures
+    let e = c.in_err-written in
+    room-refused a.shaper a.state a.renderer a.node a.entries a.mark a.message.now a.out.now good c.if-message-gt-MESSAGE_LIMIT.false writable _ c.in_ok-given.ensures refl c.min_row_height-height.result c.min_row_height-height.ensures _ _ e.ensures _ (number-some e.field-0.0)
+    (handed-on a.shaper a.state a.renderer a.node a.entries a.mark a.message.now a.out.now c.from_residual-in_err-written.result e.field-0.0 c.from_residual-in_err-written.ensures.1)
 
 pub returns : goal.returns
 returns c =
     let a = c.args in
     let good = sym c.is_mark.ensures ∙ c.if-not-is_mark.false in
     let writable = sym c.are_writable.ensures ∙ c.if-not-are_writable.false in
-    accepted a.shaper a.state a.renderer a.node a.entries a.mark a.message.now a.out.now good c.if-message-gt-MESSAGE_LIMIT.false writable c.next_row_shape-given.result c.next_row_shape-given.ensures c.if-given-ne-ACCEPTED.false c.min_row_height-height.result c.min_row_height-height.ensures _ c.write_row_text-written.result c.write_row_text-written.ensures _ c.if-written-ne-ACCEPTED.false refl
+    accepted a.shaper a.state a.renderer a.node a.entries a.mark a.message.now a.out.now good c.if-message-gt-MESSAGE_LIMIT.false writable _ c.in_ok-given.ensures refl c.min_row_height-height.result c.min_row_height-height.ensures _ _ c.in_ok-written.ensures _ refl refl

@@ -1,9 +1,0 @@
--- The invariant: no more cells are read than are given. The measure is the number of cells left to read.
-use Rattle.std.proofs.Common.{◌-◌, ◌≤◌}
-use Rattle.replay.proofs.codes.cells_at.Given as goal
-
-abbrev pub invariant-loop-i : goal.invariant-loop-i
-invariant-loop-i l = l.i ≤ l.given
-
-abbrev pub decreases-loop-i : goal.decreases-loop-i
-decreases-loop-i l = l.given - l.i
