@@ -59,7 +59,7 @@ pub struct Place {
     pub next: LinkLine,
 }
 
-// What the lines of a row are drawn from.
+// What the lines of a row are drawn from; cells and width are the shape's, whose width can be any where it is made by hand.
 #[derive(Clone, Copy)]
 pub struct Drawing {
     pub renderer: Renderer,

@@ -18,7 +18,7 @@ use row_shape::NextRow;
 use shaper::Shaper;
 use text::NextText;
 
-// The most entries of a list; a count above it is read as the limit.
+// The most entries of a list; a count above it is read as the limit. Array and count go by value: what calls these has no references to lend.
 pub const LIST_LIMIT: usize = 1000;
 
 // The reserving call on a shaper of its own.

@@ -9,7 +9,7 @@ use render::{Entries, Refusal};
 use row_shape::next_row_shape;
 use shaper::Shaper;
 
-// What the preview gives: the node's column, the width of the node line, and the columns after the row.
+// What the preview gives: the node's column, the width of the node line, and the columns after the row, as slots and a count like the shaper's.
 #[derive(Clone, Copy)]
 pub struct RowPreview {
     pub node_column: usize,

@@ -83,7 +83,7 @@ fn entry_at(bytes: &[u8; RECORD], number: usize) -> Entry
     Entry { ancestor }
 }
 
-// The entries of a record, as many as it has parents, and no more than there is room for.
+// The entries of a record, as many as it has parents, and no more than there is room for: read by their numbers, as no slice holds them.
 pub fn entries_of(bytes: &[u8; RECORD]) -> Entries
     ensures { result ≡ entries_with (map entry_of (written_from bytes.now 0 (min (parent_count bytes.now) entry_limit))) }
 {

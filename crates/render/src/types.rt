@@ -48,7 +48,7 @@ pub struct Cell {
 }
 
 // An abstract graph row shape for one node (`GraphRowShape` in types.rs). Its lines are the first `width` cells;
-// the parent columns are those whose cell has `parent` set.
+// the parent columns are those whose cell has `parent` set. Cells and width are fixed memory.
 #[derive(Clone, Copy)]
 pub struct RowShape {
     pub node: u32,

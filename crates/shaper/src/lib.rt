@@ -48,7 +48,7 @@ pub fn is_head(existing: Option<usize>, held: Column) -> bool
     existing.is_none() || held.is_reserved()
 }
 
-// A column for a node that none holds.
+// A column for a node that none holds; slots and count as in `column`, here and in `find_column`.
 fn find_column_for_unallocated_node(
     slots: [Slot; COLUMN_LIMIT],
     count: usize,

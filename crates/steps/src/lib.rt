@@ -95,7 +95,7 @@ fn refused(out: &mut [u8], refusal: Refusal, progress: Progress) -> Step
     }
 }
 
-// DrawsOrRefuses the next record as text, if there is one, unless it is refused.
+// Draws the next record as text, if there is one, unless it is refused.
 fn draw_page(out: &mut [u8], left: &[u8], progress: Progress) -> Result<Step, Refusal>
     ensures { DrawsOrRefuses (page_step (progress_view_of progress) left.now out.old) progress out.old out.new result }
 {
@@ -125,7 +125,7 @@ fn draw_page(out: &mut [u8], left: &[u8], progress: Progress) -> Result<Step, Re
     })
 }
 
-// DrawsOrRefuses the next record as lines of the listing, if there is one, unless it is refused.
+// Draws the next record as lines of the listing, if there is one, unless it is refused.
 // Beside `draw_page`: one step over a closure that is lent the output would have clauses longer than the lines that the two share.
 fn draw_listing(out: &mut [u8], left: &[u8], progress: Progress) -> Result<Step, Refusal>
     ensures { DrawsOrRefuses (listing_step (progress_view_of progress) left.now out.old) progress out.old out.new result }
@@ -151,7 +151,7 @@ fn draw_listing(out: &mut [u8], left: &[u8], progress: Progress) -> Result<Step,
     })
 }
 
-// A step of the page program, on the bytes that are left.
+// A step of the page program, on the bytes that are left; beside that of the listing, since both are public and one match each.
 pub fn page_step(out: &mut [u8], left: &[u8], progress: Progress) -> Step
     ensures { Steps (page_step (progress_view_of progress) left.now out.old) progress out.old out.new (step_from progress result) }
 {

@@ -354,7 +354,7 @@ impl RowLines<'_> {
     }
 }
 
-// Writes a row's text, if the output has room for it (`write_next_text`).
+// Writes a row's text, if the output has room for it (`write_next_text`); it is given the parts that `RowLines` is made of.
 pub(crate) fn write_row_text(
     out: &mut [u8],
     shape: RowShape,

@@ -108,7 +108,7 @@ fn put(out: &mut [u8], bytes: &[u8]) -> Option<usize>
     Some(write_bytes(out, bytes))
 }
 
-// Writes a shape: the row's bytes and then each cell's.
+// Writes a shape: the row's bytes and then each cell's, at the place that its number gives.
 fn put_shape(out: &mut [u8], shape: RowShape) -> Option<usize>
     ensures { Puts (shape_bytes shape) out.old out.new result }
 {
