@@ -72,7 +72,7 @@ fn ancestor(kind: u8, id: u32) -> Ancestor {
     }
 }
 
-// The renderer with this code; one above 4 is DEC.
+// The renderer with this code; one above 4 is DEC. `whole_history` has its own: the codes of two formats, which no crate below knows.
 fn renderer(code: u8) -> Renderer {
     match code {
         0 => Renderer::Ascii,

@@ -29,7 +29,8 @@ const CELL: usize = 8;
 // The bytes that are written of a preview.
 const PREVIEW: usize = 3;
 
-// The renderer with this number; one above 4 is DEC. By cases: a number is told by no shorter form.
+// The renderer with this number; one above 4 is DEC. By cases: a number is told by no shorter form. `replay` has its own: the codes of two formats,
+// which no crate below knows.
 fn renderer_of(number: u8) -> Renderer
     ensures { result ≡ renderer_of number }
 {
@@ -371,7 +372,7 @@ pub fn whole_history_lines(records: &[u8], renderer: u8, kept: bool, out: &mut [
     walk(lines, records, kept, out)
 }
 
-// What `whole_history_shapes` gives, by the public call.
+// What `whole_history_shapes` gives, by the public call; a call of its own for the C interface.
 #[tactic(auto, unfolding(crate::specs::Whole::whole_shapes))]
 pub fn whole_history_lent_shapes(records: &[u8], kept: bool, out: &mut [u8]) -> usize
     ensures { whole_shapes records.now kept out.old ≡ record { rows = result; output = out.new } }
