@@ -231,7 +231,10 @@ pub fn first_other_empty(slots: [Slot; COLUMN_LIMIT], count: usize, skip: usize)
 pub fn vacant(slots: [Slot; COLUMN_LIMIT], count: usize) -> usize
     ensures { result ≡ vacant_in (live count slots) }
 {
-    first_empty(slots, count).unwrap_or(live_count(count))
+    let Some(index) = first_empty(slots, count) else {
+        return live_count(count);
+    };
+    index
 }
 
 // The number of columns once there is one at `index`: none past the limit.

@@ -64,7 +64,10 @@ pub fn parent_column(
     if column < n && slots[column].column.is_empty() {
         return column;
     }
-    column::first_empty(slots, count).unwrap_or(n)
+    let Some(index) = column::first_empty(slots, count) else {
+        return n;
+    };
+    index
 }
 
 // The slot of a column after an entry of the node's row merged into it.

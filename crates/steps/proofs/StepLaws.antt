@@ -2,17 +2,17 @@
 use mathlib.Core.Path.{◌≡◌, refl, sym, ap, ap₂, ◌∙◌}
 use mathlib.Core.Bool.{Bool, true, false, cond, true≢false}
 use mathlib.Core.List.{List}
-use Prim.Native.Nat.{ℕ, zero, suc, ◌<◌, ◌≤◌}
+use Prim.Native.Nat.{ℕ, zero, suc, ◌≤◌}
 use native.Mathlib.Omega.{arith}
 use borrow.Author.Tests.{le-ltb, ne_eqb}
-use lib.Dec.{ltb, lit≤}
+use lib.Dec.{ltb}
 use lib.ListN.{length, take, drop}
 use lib.Seq.{take-append_seam}
 use Rattle.render.specs.declared.render.Ancestor.{Ancestor as Entry}
 use Rattle.render.specs.Entries.{listed}
 use Rattle.render.specs.Mark.{is_mark}
 use Rattle.render.specs.declared.refusals.Refusal.{Refusal}
-use Rattle.render.specs.declared.refusals.Refusal.TheVariants.{HeightAboveLimit, NoColumnLeft, TooManyEntries, NodeLineTooWide, MarkOutsideSpan, MessageTooLong, MessageByteNotWritable, OutputShorterThanLines, RecordCutShort, TooManyParents, KindAboveLimit, ShapeTooWide, IdNotBelowPrevious, ParentNotBelowId, UnequalRecords, OutputShorterThanResult, WidthOutsideSpan, TooFewCellsLeft, GlyphByteNotPrintable, TooManyRecords, TooManyReached, NoSuchRecord, ByteNotReadable, ByteNotAGlyph}
+use Rattle.render.proofs.RefusalLaws.{number-some}
 use Rattle.render.specs.Refusals.{not_refused, output_shorter_than_lines, refusal, number as number_of}
 use Rattle.shaper.specs.Shaper.{View, view_of}
 use Rattle.row_shape.specs.declared.NextRow.{NextRow}
@@ -40,36 +40,6 @@ use Rattle.steps.specs.declared.Step.{Step}
 use Rattle.steps.specs.Steps.{refused_in, ProgressView, StepReply, stopped, stepped, next, page_row, listing_row, on_record}
 use Rattle.steps.specs.Promises.{progress_view_of, Steps}
 use Rattle.steps.specs.Inner.{DrawsOrRefuses}
-
--- no refusal has the number of none
-positive : (e : Refusal) → 0 < number_of e
-positive HeightAboveLimit = lit≤ tt
-positive NoColumnLeft = lit≤ tt
-positive TooManyEntries = lit≤ tt
-positive NodeLineTooWide = lit≤ tt
-positive MarkOutsideSpan = lit≤ tt
-positive MessageTooLong = lit≤ tt
-positive MessageByteNotWritable = lit≤ tt
-positive OutputShorterThanLines = lit≤ tt
-positive RecordCutShort = lit≤ tt
-positive TooManyParents = lit≤ tt
-positive KindAboveLimit = lit≤ tt
-positive ShapeTooWide = lit≤ tt
-positive IdNotBelowPrevious = lit≤ tt
-positive ParentNotBelowId = lit≤ tt
-positive UnequalRecords = lit≤ tt
-positive OutputShorterThanResult = lit≤ tt
-positive WidthOutsideSpan = lit≤ tt
-positive TooFewCellsLeft = lit≤ tt
-positive GlyphByteNotPrintable = lit≤ tt
-positive TooManyRecords = lit≤ tt
-positive TooManyReached = lit≤ tt
-positive NoSuchRecord = lit≤ tt
-positive ByteNotReadable = lit≤ tt
-positive ByteNotAGlyph = lit≤ tt
-
-some-number : (e : Refusal) → number_of e ≡ 0 → ⊥
-some-number e h = omega (arith, positive e, h)
 
 -- ---- what a text call's definition says of a refusal and of what was written
 module _ (v : View) (t : TextView) (q : Renderer) (n : ℕ) (es : List Entry) (mark : ℕ) (message out : List ℕ) where
@@ -157,7 +127,7 @@ module _ (p : Progress) (d : Record) (out after : List ℕ) where
 
   pub page-refused : (e : Refusal) → Called (Err e) → DrawsOrRefuses (page_row (progress_view_of p) (record_view_of d) out) p out after (Err e)
   page-refused e u =
-      let z : number_of e ≡ 0 → ⊥ = some-number e in
+      let z : number_of e ≡ 0 → ⊥ = number-some e in
       (stops p d out (take d.message_length d.message) refl (text_answer_from p.shaper p.state (Err e)) after u (number_of e) refl z, page-out p d out (take d.message_length d.message) refl (text_answer_from p.shaper p.state (Err e)) after u z)
 
   pub page-drawn : (n : NextText) (k : ℕ) → k ≡ next p.number → Called (Ok n)
@@ -231,12 +201,12 @@ module _ (p : Progress) (d : Record) (out : List ℕ) where
 -- the results of the row call and of the listing call
 module _ (p : Progress) (d : Record) (out : List ℕ) (b : is_mark d.mark ≡ true) where
   pub row-refused : (e : Refusal) → Rows p.shaper d.id d.entries (row_answer_from p.shaper (Err e)) → DrawsOrRefuses (listing_row (progress_view_of p) (record_view_of d) out) p out out (Err e)
-  row-refused e u = (row-stops p d out b (row_answer_from p.shaper (Err e)) u (some-number e), refl)
+  row-refused e u = (row-stops p d out b (row_answer_from p.shaper (Err e)) u (number-some e), refl)
 
   module _ (n : NextRow) (u : Rows p.shaper d.id d.entries (row_answer_from p.shaper (Ok n))) (after : List ℕ) where
     pub room-refused : (e : Refusal) → answer_of (Err e) after ≡ listing n.shape d.mark out → DrawsOrRefuses (listing_row (progress_view_of p) (record_view_of d) out) p out after (Err e)
     room-refused e y =
-        (room-stops p d out b (row_answer_from p.shaper (Ok n)) u refl (Err e) after y (some-number e), room-out p d out b (row_answer_from p.shaper (Ok n)) u refl (Err e) after y (some-number e))
+        (room-stops p d out b (row_answer_from p.shaper (Ok n)) u refl (Err e) after y (number-some e), room-out p d out b (row_answer_from p.shaper (Ok n)) u refl (Err e) after y (number-some e))
 
 -- ---- the record call's result
 module _ (draws : ProgressView → RecordView → List ℕ → StepReply) (p : Progress) (left out : List ℕ) where

@@ -5,7 +5,7 @@ use mathlib.Core.List.{List}
 use Prim.Native.Nat.{ℕ, zero, suc, ◌<◌, ◌≤◌}
 use native.Mathlib.Omega.{arith}
 use borrow.Author.Tests.{lt-ltb, le-ltb, ne_eqb}
-use lib.Dec.{ltb, lit≤}
+use lib.Dec.{ltb}
 use lib.ListN.{length}
 use Rattle.column.specs.Columns.{column_limit}
 use Rattle.render.specs.declared.render.Entries.{Entries}
@@ -14,7 +14,6 @@ use Rattle.render.specs.Entries.{listed}
 use Rattle.render.specs.Mark.{is_mark}
 use Rattle.render.specs.Refusals.{not_refused, mark_outside_span, message_too_long, message_byte_not_writable, output_shorter_than_lines, refusal, number as number_of}
 use Rattle.render.specs.declared.refusals.Refusal.{Refusal}
-use Rattle.render.specs.declared.refusals.Refusal.TheVariants.{HeightAboveLimit, NoColumnLeft, TooManyEntries, NodeLineTooWide, MarkOutsideSpan, MessageTooLong, MessageByteNotWritable, OutputShorterThanLines, RecordCutShort, TooManyParents, KindAboveLimit, ShapeTooWide, IdNotBelowPrevious, ParentNotBelowId, UnequalRecords, OutputShorterThanResult, WidthOutsideSpan, TooFewCellsLeft, GlyphByteNotPrintable, TooManyRecords, TooManyReached, NoSuchRecord, ByteNotReadable, ByteNotAGlyph}
 use Rattle.shaper.specs.declared.Shaper.{Shaper}
 use Rattle.row_shape.specs.Promises.{RowAnswer}
 use Rattle.shaper.specs.Shaper.{View, view_of}
@@ -32,36 +31,6 @@ use Rattle.text.specs.declared.graph_text_renderer.NextText.{NextText}
 use Rattle.text.specs.Text.{text_lines, text_after, text_checks, text_answer, text_with}
 use Rattle.text.specs.Promises.{TextAnswer, text_answer_from, text_reply_of, Texts}
 use Rattle.text.specs.Inner.{RowText, RowTexts}
-
--- no refusal has the number of none
-positive : (e : Refusal) → 0 < number_of e
-positive HeightAboveLimit = lit≤ tt
-positive NoColumnLeft = lit≤ tt
-positive TooManyEntries = lit≤ tt
-positive NodeLineTooWide = lit≤ tt
-positive MarkOutsideSpan = lit≤ tt
-positive MessageTooLong = lit≤ tt
-positive MessageByteNotWritable = lit≤ tt
-positive OutputShorterThanLines = lit≤ tt
-positive RecordCutShort = lit≤ tt
-positive TooManyParents = lit≤ tt
-positive KindAboveLimit = lit≤ tt
-positive ShapeTooWide = lit≤ tt
-positive IdNotBelowPrevious = lit≤ tt
-positive ParentNotBelowId = lit≤ tt
-positive UnequalRecords = lit≤ tt
-positive OutputShorterThanResult = lit≤ tt
-positive WidthOutsideSpan = lit≤ tt
-positive TooFewCellsLeft = lit≤ tt
-positive GlyphByteNotPrintable = lit≤ tt
-positive TooManyRecords = lit≤ tt
-positive TooManyReached = lit≤ tt
-positive NoSuchRecord = lit≤ tt
-positive ByteNotReadable = lit≤ tt
-positive ByteNotAGlyph = lit≤ tt
-
-pub number-some : (e : Refusal) → number_of e ≡ 0 → ⊥
-number-some e z = omega (arith, positive e, z)
 
 -- an accepted row has at most 64 cells
 pub accepted-width : (s : Shaper) (n : ℕ) (es : Entries) (g : RowAnswer) → Rows s n es g → g.refusal ≡ 0 → g.shape.width ≤ column_limit

@@ -1,5 +1,4 @@
 pub mod RunLaws
 pub mod WalkLaws
 pub mod ShapeLaws
-pub mod RefusalLaws
 pub mod TurnLaws

@@ -36,7 +36,7 @@ use Rattle.record.specs.Record.{id_at, mark_of, parent_count, written_from, entr
 use Rattle.record.specs.Promises.{entries_with}
 use Rattle.steps.specs.Steps.{beginning}
 use Rattle.steps.proofs.StepLaws.{refused-output, accepted-output}
-use Rattle.whole_history.proofs.RefusalLaws.{number-some}
+use Rattle.render.proofs.RefusalLaws.{number-some}
 use Rattle.whole_history.specs.Shapes.{row_bytes, preview_bytes, Puts}
 use Rattle.whole_history.specs.Whole.{entries_of, Turned, Makes, put_turn, text_turn, shape_turn, preview_turn, lines_turn}
 use Rattle.record.proofs.RecordLaws.{written-length, listed-with}

@@ -38,10 +38,17 @@ returns-then-is_empty c =
     parent-column-free a.column a.ancestor (live a.count a.slots) _ (held (goal.at.returns-then-is_empty c).After-first_holding ∙ c.in_default.is)
     (find-empty-hit a.count a.slots a.column (omega arith) (omega arith) (sym c.is_empty.ensures ∙ c.if-is_empty.true))
 
+pub returns-in_default-first_empty : goal.returns-in_default-first_empty
+returns-in_default-first_empty c =
+    let a = c.args in
+    let cs = live a.count a.slots in
+    let n : c.live_count-n.result ≡ length cs = rw (length_front column_of a.count a.slots) (omega arith) in
+    parent-column-else a.column a.ancestor cs _ c.first_empty.result (held (goal.at.returns-in_default-first_empty c).After-first_holding ∙ c.in_default.is)
+    (not_own (goal.at.returns-in_default-first_empty c).After-first_empty ∙ sym c.first_empty.ensures) (n ∙ ap (λ f. unwrap_or f (length cs)) (sym c.in_default-first_empty.is))
+
 pub returns : goal.returns
 returns c =
     let a = c.args in
     let cs = live a.count a.slots in
-    let n : c.live_count-n.result ≡ length cs = rw (length_front column_of a.count a.slots) (omega arith) in
     parent-column-else a.column a.ancestor cs _ c.first_empty.result (held (goal.at.returns c).After-first_holding ∙ c.in_default.is)
-    (not_own (goal.at.returns c).After-first_empty ∙ sym c.first_empty.ensures) (c.unwrap_or.ensures ∙ ap (unwrap_or c.first_empty.result) n)
+    (not_own (goal.at.returns c).After-first_empty ∙ sym c.first_empty.ensures) (ap (λ f. unwrap_or f (length cs)) (sym c.in-Some-first_empty.is))

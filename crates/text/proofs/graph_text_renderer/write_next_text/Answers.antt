@@ -1,7 +1,8 @@
 -- `write_next_text` meets its contract: one law for each way out.
 use mathlib.Core.Path.{refl, sym, ◌∙◌}
 use native.Mathlib.Omega.{arith}
-use Rattle.text.proofs.CallLaws.{mark-refused, long-refused, byte-refused, row-refused, room-refused, accepted, accepted-width, number-some, handed-on}
+use Rattle.render.proofs.RefusalLaws.{number-some}
+use Rattle.text.proofs.CallLaws.{mark-refused, long-refused, byte-refused, row-refused, room-refused, accepted, accepted-width, handed-on}
 use Rattle.text.proofs.graph_text_renderer.write_next_text.Goals as goal
 
 pub returns-then-not-is_mark : goal.returns-then-not-is_mark

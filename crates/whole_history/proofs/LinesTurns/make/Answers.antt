@@ -1,6 +1,6 @@
 -- The row call and the renderer call on its shape make what the definition says.
 use mathlib.Core.Path.{refl}
-use Rattle.whole_history.proofs.RefusalLaws.{number-some}
+use Rattle.render.proofs.RefusalLaws.{number-some}
 use Rattle.whole_history.proofs.TurnLaws.{row-refused, lines-make}
 use Rattle.whole_history.proofs.LinesTurns.make.Goals as goal
 

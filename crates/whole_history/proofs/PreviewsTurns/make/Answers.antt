@@ -4,7 +4,7 @@ use borrow.Author.Rules.{rules}
 use lib.ListN.{length}
 use Rattle.column.specs.Columns.{column_limit}
 use Rattle.shaper.proofs.Laws.{slots-long}
-use Rattle.whole_history.proofs.RefusalLaws.{number-some}
+use Rattle.render.proofs.RefusalLaws.{number-some}
 use Rattle.whole_history.proofs.TurnLaws.{preview-refused, preview-makes}
 use Rattle.whole_history.proofs.PreviewsTurns.make.Goals as goal
 

@@ -1,6 +1,6 @@
 -- The row call and the writer of its shape's bytes make what the definition says.
 use mathlib.Core.Path.{refl}
-use Rattle.whole_history.proofs.RefusalLaws.{number-some}
+use Rattle.render.proofs.RefusalLaws.{number-some}
 use Rattle.whole_history.proofs.TurnLaws.{shape-refused, shape-makes}
 use Rattle.whole_history.proofs.ShapesTurns.make.Goals as goal
 

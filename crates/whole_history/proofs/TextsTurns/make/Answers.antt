@@ -1,7 +1,7 @@
 -- The text call makes what the definition says.
 use mathlib.Core.Path.{refl}
 use borrow.Author.Rules.{rules}
-use Rattle.whole_history.proofs.RefusalLaws.{number-some}
+use Rattle.render.proofs.RefusalLaws.{number-some}
 use Rattle.whole_history.proofs.TurnLaws.{text-refused, text-makes}
 use Rattle.whole_history.proofs.TextsTurns.make.Goals as goal
 
