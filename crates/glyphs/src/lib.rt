@@ -13,7 +13,7 @@ pub use ascii::{ASCII_TABLE, ascii_table};
 pub use ascii_large::{LARGE_TABLE, large_table};
 pub use box_drawing::{BOX_TABLE, box_table};
 pub use choice::choose_cells;
-pub use row::{LINES, drawing_of, is_large, is_present, row_of};
+pub use row::{LINES, drawing_of, is_large, is_present, line_at, row_of};
 pub use table::{cells_length, trailing_blanks, write_cells, write_finished};
 pub use types::{Choice, Drawing, Line, Place, Row};
 

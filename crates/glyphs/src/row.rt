@@ -1,6 +1,6 @@
 // The facts of a row, and which lines it has.
-ghost use Rattle.std.specs.Prelude.{◌≡◌};
-ghost use Rattle.glyphs.specs.Cells.{is_large, is_present};
+ghost use Rattle.std.specs.Prelude.{◌≡◌, get_or};
+ghost use Rattle.glyphs.specs.Cells.{all_lines, is_large, is_present};
 ghost use Rattle.std.specs.List.{list_any};
 ghost use Rattle.glyphs.specs.Row.{is_horizontal, is_indirect, row_of, drawing_of};
 
@@ -69,6 +69,16 @@ pub fn drawing_of(shape: RowShape, renderer: Renderer, mark: u8) -> Drawing
         cells,
         width: shape.width,
     }
+}
+
+// The line at a place of the order; past the end, the last.
+pub fn line_at(k: usize) -> Line
+    ensures { result ≡ get_or all_lines k Line.PostAncestry }
+{
+    let Some(line) = LINES.get(k) else {
+        return Line::PostAncestry;
+    };
+    *line
 }
 
 // Whether the renderer is large ASCII, which draws a second link line, and a cell by three bytes.

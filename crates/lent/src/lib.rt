@@ -1,45 +1,59 @@
-// The lent calls by value: each caller here makes the references that its call takes, of its own parameters.
+// The lent calls by value: each caller here makes the references that its call takes, of its own parameters, and gives back what the call left in them,
+// behind a refusal too.
 #![tactic(auto)]
 
 ghost use Rattle.std.specs.Prelude.{take};
-ghost use Rattle.shaper.specs.Shaper.{answer_from};
-ghost use Rattle.row_shape.specs.Promises.{row_answer_from};
 ghost use Rattle.preview.specs.Promises.{preview_answer_from};
 ghost use Rattle.width.specs.Width.{width_answer_from};
-ghost use Rattle.text.specs.Promises.{text_answer_from};
-ghost use Rattle.lineage.specs.Promises.{LentReserves, LentRows, LentPreview, LentWidth, LentOrigin, LentTexts};
+ghost use Rattle.lineage.specs.Promises.{refusal_from, shape_answer_from, length_answer_from, LentReserves, LentRows, LentPreview, LentWidth, LentOrigin, LentTexts};
 
 use column::Started;
 use glyphs::Renderer;
+use lineage::TextLength;
 use output::TextState;
 use preview::RowPreview;
-use render::{Entry, Refusal};
-use row_shape::NextRow;
+use render::{Entry, Refusal, RowShape};
 use shaper::Shaper;
-use text::NextText;
 
 // The most entries of a list; a count above it is read as the limit. Array and count go by value: what calls these has no references to lend.
 pub const LIST_LIMIT: usize = 1000;
 
+// What the reserving call gave, and the shaper as it left it.
+#[derive(Clone, Copy)]
+pub struct Reserved {
+    pub given: Result<(), Refusal>,
+    pub shaper: Shaper,
+}
+
+// What the row call gave, and the shaper as it left it.
+#[derive(Clone, Copy)]
+pub struct RowMade {
+    pub given: Result<RowShape, Refusal>,
+    pub shaper: Shaper,
+}
+
+// What the text call gave, and both states as it left them.
+#[derive(Clone, Copy)]
+pub struct TextMade {
+    pub given: Result<TextLength, Refusal>,
+    pub shaper: Shaper,
+    pub state: TextState,
+}
+
 // The reserving call on a shaper of its own.
-pub fn reserve_on(mut shaper: Shaper, node: u32) -> Result<Shaper, Refusal>
-    ensures { let given = answer_from shaper result in LentReserves shaper node given.shaper given.refusal }
+pub fn reserve_on(mut shaper: Shaper, node: u32) -> Reserved
+    ensures { LentReserves shaper node result.shaper (refusal_from result.given) }
 {
-    lineage::reserve(&mut shaper, node)?;
-    Ok(shaper)
+    let given = lineage::reserve(&mut shaper, node);
+    Reserved { given, shaper }
 }
 
 // The row call on a shaper of its own and the first entries of a list, as many as it has at most.
-pub fn row_on(
-    mut shaper: Shaper,
-    node: u32,
-    list: [Entry; LIST_LIMIT],
-    count: usize,
-) -> Result<NextRow, Refusal>
-    ensures { let given = row_answer_from shaper result in LentRows shaper node (take count list) given.shaper (record { refusal = given.refusal; shape = given.shape }) }
+pub fn row_on(mut shaper: Shaper, node: u32, list: [Entry; LIST_LIMIT], count: usize) -> RowMade
+    ensures { LentRows shaper node (take count list) result.shaper (shape_answer_from result.given) }
 {
-    let shape = lineage::row(&mut shaper, node, &list[..count.min(LIST_LIMIT)])?;
-    Ok(NextRow { shape, shaper })
+    let given = lineage::row(&mut shaper, node, &list[..count.min(LIST_LIMIT)]);
+    RowMade { given, shaper }
 }
 
 // The preview of a row on a shaper of its own and the first entries of a list, as many as it has at most.
@@ -84,8 +98,8 @@ pub fn text_on(
     mark: u8,
     message: &[u8],
     out: &mut [u8],
-) -> Result<NextText, Refusal>
-    ensures { let given = text_answer_from shaper state result in LentTexts shaper state renderer node (take count list) mark message.now out.old given.shaper given.state out.new (record { refusal = given.refusal; length = given.length; measure = given.measure }) }
+) -> TextMade
+    ensures { LentTexts shaper state renderer node (take count list) mark message.now out.old result.shaper result.state out.new (length_answer_from result.given) }
 {
     let given = lineage::text(
         &mut shaper,
@@ -96,11 +110,10 @@ pub fn text_on(
         mark,
         message,
         out,
-    )?;
-    Ok(NextText {
-        length: given.length,
-        measure: given.measure,
+    );
+    TextMade {
+        given,
         shaper,
         state,
-    })
+    }
 }

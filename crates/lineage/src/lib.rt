@@ -9,7 +9,8 @@ use render::Entries;
 use row_shape::next_row_shape;
 use text::write_next_text;
 
-// The new shaper call is `Shaper::with_options`; why a call turns back is a `Refusal`.
+// The new shaper call is `Shaper::with_options`; why a call turns back is a `Refusal`. What a refused call gives beside it, where that is no 0: `Shaper::refused`,
+// `no_shape`, `RowPreview::refused` and `Record::none`.
 pub use column::{Column, Slot, Started};
 pub use render::{DashStyle, LinkLinePlacement, Options, Refusal, Style};
 pub use shaper::Shaper;
@@ -19,9 +20,12 @@ pub use glyphs::Renderer;
 pub use output::TextState;
 pub use preview::RowPreview;
 pub use render::{Ancestor, Cell, Entry, LinkLine, NodeLine, PadLine, RowShape};
+pub use row_shape::no_shape;
 
-// The renderer call.
+// The renderer call, and what it gives: the count of bytes written.
 pub use prefix_lines::next_prefix_lines;
+
+pub type LinesAnswer = Result<usize, Refusal>;
 
 // The record call.
 pub use record::{Record, next_record};

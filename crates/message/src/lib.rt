@@ -47,12 +47,13 @@ fn line_ends(message: &[u8]) -> usize
     count
 }
 
-// Where a block's first line end is; a block that ends no line is passed over at once.
+// Where a block's first line end is. A whole block that ends no line is passed over at once; where fewer bytes are left, the line's end is searched
+// byte by byte, since short lines would have them counted anew for each (docs/SPEED.md).
 fn end_in(block: &[u8]) -> Option<usize>
     requires { length block.now ≤ block_length }
     ensures { result ≡ position is_end block.now }
 {
-    if ends_of(block) == 0 {
+    if block.len() == BLOCK && ends_of(block) == 0 {
         return None;
     }
     block.iter().position(|&byte| byte == b'\n')

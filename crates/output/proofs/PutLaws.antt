@@ -2,13 +2,14 @@
 use mathlib.Core.Path.{◌≡◌, refl, sym, ap, ◌∙◌}
 use mathlib.Core.Bool.{Bool, true, false, cond, ◌&&◌}
 use mathlib.Core.List.{List, [], ◌∷◌, ◌++◌, map, append_assoc, append-nil}
-use Prim.Native.Nat.{ℕ, zero, suc, ◌+◌, ◌-◌, ◌<◌, ◌≤◌, max, zero-le}
+use Prim.Native.Nat.{ℕ, zero, suc, ◌+◌, ◌-◌, ◌<◌, ◌≤◌, min, max, zero-le}
 use native.Mathlib.Nat.{add-zero}
 use native.Mathlib.Omega.{arith}
 use lib.Dec.{eqb, ltb, leb, lit≤}
 use borrow.Author.Tests.{ne_eqb, ltb-true, ltb-false, leb-true, le-leb, lt-leb}
 use lib.ListN.{length, take, drop, set, length-append, length-take}
 use lib.Seq.{take-append_seam}
+use Rattle.std.proofs.lemmas.List.{take_min}
 use Rattle.slices.specs.Characters.{newline}
 use Rattle.slices.specs.Joins.{over, Writes}
 use Rattle.slices.proofs.JoinLaws.{joins-append}
@@ -54,6 +55,18 @@ module _ (t : TextState) (long : length t.queued_pad_line ≡ queue_limit) where
       go true e =
           let l : List ℕ = take t.queued_length t.queued_pad_line in
           rw (e, append-nil, length-append (trim_end l) (0x0a ∷ [])) (omega (arith, trim-length l, length-take t.queued_length t.queued_pad_line, long))
+
+  module _ (n : ℕ) (e : t.is_queued ≡ true) (f : n ≡ min t.queued_length queue_limit) where
+    -- the line is what the code reads
+    queue-lines : flushed finish (text_view_of t) ≡ finish (take (n - 0) (drop 0 t.queued_pad_line)) ∷ []
+    queue-lines =
+        let z : n - 0 ≡ n = omega arith in
+        let q : take n t.queued_pad_line ≡ take t.queued_length t.queued_pad_line
+        = ap (λ (k : ℕ). take k t.queued_pad_line) (f ∙ ap (min t.queued_length) (sym long)) ∙ take_min t.queued_length t.queued_pad_line in
+        rw (e, z, q) refl
+
+    pub queue-written : (d o : List ℕ) (k : ℕ) → Writes (ended (finish (take (n - 0) (drop 0 t.queued_pad_line)))) d o k → Writes (text_of (flushed finish (text_view_of t))) d o k
+    queue-written d o k w = rw (queue-lines, append-nil) w
 
 -- ---- lines that fit, and lines that do not
 module _ (ls : List (List ℕ)) (d o : List ℕ) (r : Put) where

@@ -1,6 +1,7 @@
 // The preview of a row: what the row call gives on a copy of the shaper, without the shape's cells.
 #![tactic(auto)]
 
+ghost use Rattle.std.specs.Prelude.{◌≡◌};
 ghost use Rattle.render.specs.Entries.{listed};
 ghost use Rattle.preview.specs.Promises.{preview_answer_from, Previews};
 
@@ -16,6 +17,21 @@ pub struct RowPreview {
     pub width: usize,
     pub slots: [Slot; COLUMN_LIMIT],
     pub count: usize,
+}
+
+impl RowPreview {
+    // What a refused preview shows: column 0, width 0, and the shaper's own columns.
+    pub fn refused(shaper: Shaper) -> RowPreview
+        ensures { result ≡ record { node_column = 0; width = 0; slots = shaper.slots; count = shaper.count } }
+    {
+        let slots = shaper.slots;
+        RowPreview {
+            node_column: 0,
+            width: 0,
+            slots,
+            count: shaper.count,
+        }
+    }
 }
 
 // The preview of a row: the row call on the copy of the shaper that is handed in.

@@ -3,7 +3,7 @@
 
 ghost use Rattle.std.specs.Prelude.{◌≡◌, map, min, ◌+◌, ◌<◌, ◌≤◌, length, take};
 ghost use Rattle.render.specs.Entries.{entry_limit};
-ghost use Rattle.record.specs.Record.{record_length, parent_count, kind_limit, message_room, id_at, mark_of, entry_of, written_at, written_from, any_above, up_to_zero, record_of};
+ghost use Rattle.record.specs.Record.{record_length, parent_count, kind_limit, message_room, id_at, mark_of, entry_of, written_at, written_from, any_above, up_to_zero, record_of, no_record};
 ghost use Rattle.record.specs.Promises.{entry, entries_with, padded, record_with, record_answer_from, Records};
 
 use render::{Ancestor, ENTRY_LIMIT, Entries, Entry, Refusal};
@@ -37,6 +37,21 @@ pub struct Record {
     pub entries: Entries,
     pub message: [u8; MESSAGE_ROOM],
     pub message_length: usize,
+}
+
+impl Record {
+    // What a refused record comes back as, and what stands where there is none: id 0, mark 0, no entries and no message.
+    pub fn none() -> Record
+        ensures { result ≡ record_with no_record }
+    {
+        Record {
+            id: 0,
+            mark: 0,
+            entries: Entries::none(),
+            message: [0; MESSAGE_ROOM],
+            message_length: 0,
+        }
+    }
 }
 
 // The id at a place, low byte first.

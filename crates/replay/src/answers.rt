@@ -86,27 +86,16 @@ fn number<T>(given: &Result<T, Refusal>) -> u8 {
     }
 }
 
-// `preview REFUSAL COLUMN WIDTH columns=COLUMNS`: those of the shaper as they are, where the call was refused.
+// `preview REFUSAL COLUMN WIDTH columns=COLUMNS`
 fn write_preview<W: Write>(
     out: &mut W,
     given: &Result<RowPreview, Refusal>,
     shaper: &Shaper,
 ) -> io::Result<()> {
-    write!(out, "preview {} ", number(given))?;
-    match given {
-        Ok(preview) => {
-            let columns = Columns(&preview.slots, preview.count);
-            writeln!(
-                out,
-                "{} {} columns={columns}",
-                preview.node_column, preview.width
-            )
-        }
-        Err(_) => {
-            let columns = Columns(&shaper.slots, shaper.count);
-            writeln!(out, "0 0 columns={columns}")
-        }
-    }
+    let preview = given.unwrap_or_else(|_| RowPreview::refused(*shaper));
+    let columns = Columns(&preview.slots, preview.count);
+    write!(out, "preview {} {}", number(given), preview.node_column)?;
+    writeln!(out, " {} columns={columns}", preview.width)
 }
 
 // `text REFUSAL LENGTH MEASURE`
@@ -130,7 +119,7 @@ fn write_origin<W: Write>(out: &mut W, started: Started) -> io::Result<()> {
 pub(crate) fn write_answer<W: Write>(
     out: &mut W,
     answer: &Answer,
-    machine: &Machine,
+    machine: &Machine<'_>,
 ) -> io::Result<()> {
     let State {
         shaper,
@@ -161,11 +150,11 @@ pub(crate) fn write_answer<W: Write>(
         Answer::Origin(started) => write_origin(out, *started),
         Answer::Renderer(given, length) => {
             writeln!(out, "renderer {} {}", number(given), given.unwrap_or(0))?;
-            write_out(out, page::written(&machine.page, *length))
+            write_out(out, page::written(machine.page, *length))
         }
         Answer::Text(given, length) => {
             write_text(out, given)?;
-            write_out(out, page::written(&machine.page, *length))?;
+            write_out(out, page::written(machine.page, *length))?;
             write_shaper(out, shaper)?;
             write_text_state(out, text)
         }

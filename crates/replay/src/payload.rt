@@ -2,8 +2,6 @@
 ghost use Rattle.std.specs.Prelude.{length};
 ghost use Rattle.std.specs.Iterator.{at_most};
 
-use std::alloc::{AllocError, Global};
-
 // The bytes of a command's letter and payload length.
 pub(crate) const HEADER: usize = 3;
 
@@ -59,6 +57,11 @@ impl<'a> Payload<'a> {
         Payload { rest: bytes }
     }
 
+    // How many bytes are left.
+    pub(crate) fn len(&self) -> usize {
+        self.rest.len()
+    }
+
     // The bytes left.
     pub(crate) fn rest(self) -> &'a [u8] {
         self.rest
@@ -75,13 +78,6 @@ impl<'a> Payload<'a> {
     // A payload of its own of so many bytes.
     pub(crate) fn part(&mut self, count: usize) -> Payload<'a> {
         Payload::new(self.take(count))
-    }
-
-    // So many bytes, those past the end among them.
-    pub(crate) fn bytes(&mut self, alloc: Global, count: usize) -> Result<Vec<u8>, AllocError> {
-        let mut bytes = Vec::from_slice(alloc, self.take(count))?;
-        bytes.resize(count, 0)?;
-        Ok(bytes)
     }
 
     // The next bytes.

@@ -7,9 +7,6 @@ use std::fmt::{Display, Formatter};
 use std::io::Write;
 use std::{fmt, io};
 
-// What is printed behind the outcome where there is no record.
-const NOTHING: &str = "id=0 mark=0 entries= message=0:";
-
 // The entries of a record.
 #[derive(Clone, Copy)]
 struct Parents<'a>(&'a Entries);
@@ -22,9 +19,9 @@ impl Display for Parents<'_> {
     }
 }
 
-// `record ready id=ID mark=MARK entries=ENTRIES message=COUNT:BYTES`
-fn write_ready<W: Write>(out: &mut W, record: &Record) -> io::Result<()> {
-    write!(out, "record ready id={} mark={}", record.id, record.mark)?;
+// `id=ID mark=MARK entries=ENTRIES message=COUNT:BYTES`
+fn write_fields<W: Write>(out: &mut W, record: &Record) -> io::Result<()> {
+    write!(out, "id={} mark={}", record.id, record.mark)?;
     write!(out, " entries={} message=", Parents(&record.entries))?;
     let length = record.message_length.min(record.message.len());
     write_bytes(out, &record.message[..length])?;
@@ -37,8 +34,17 @@ pub(crate) fn write_record<W: Write>(
     given: &Result<Option<Record>, Refusal>,
 ) -> io::Result<()> {
     match given {
-        Ok(Some(record)) => write_ready(out, record),
-        Ok(None) => writeln!(out, "record ended {NOTHING}"),
-        Err(refusal) => writeln!(out, "record refused {} {NOTHING}", refusal.number()),
+        Ok(Some(record)) => {
+            write!(out, "record ready ")?;
+            write_fields(out, record)
+        }
+        Ok(None) => {
+            write!(out, "record ended ")?;
+            write_fields(out, &Record::none())
+        }
+        Err(refusal) => {
+            write!(out, "record refused {} ", refusal.number())?;
+            write_fields(out, &Record::none())
+        }
     }
 }

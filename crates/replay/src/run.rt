@@ -1,12 +1,16 @@
 // The commands: what each does with the state, and what it answers.
+use crate::codes::EntryList;
 use crate::page;
 use crate::payload::{Command, Commands, Payload};
 use column::Started;
-use lineage::{Record, RowPreview, TextLength};
+use glyphs::Renderer;
+use lineage::{Record, RowPreview, TextLength, no_shape};
 use output::TextState;
 use render::{Refusal, RowShape};
 use shaper::Shaper;
-use std::alloc::{AllocError, Global};
+
+// The greatest length of a message in a payload.
+const MESSAGE: usize = 65535;
 
 // What the commands change.
 #[derive(Clone, Copy)]
@@ -18,9 +22,19 @@ pub(crate) struct State {
 
 // What the commands work on: the state, and the page that the output of a call is lent of.
 #[derive(Drop)]
-pub(crate) struct Machine {
+pub(crate) struct Machine<'a> {
     pub(crate) state: State,
-    pub(crate) page: Vec<u8>,
+    pub(crate) page: &'a mut [u8],
+}
+
+// What a text call is given beside the states, the message and the output, and the output's length.
+#[derive(Clone, Copy)]
+struct TextCall {
+    renderer: Renderer,
+    mark: u8,
+    length: usize,
+    node: u32,
+    list: EntryList,
 }
 
 // What a command answers, beside the state that it leaves. A renderer call and a text call leave their output on the page, and the output's
@@ -45,23 +59,21 @@ pub(crate) enum Answer {
 }
 
 impl State {
-    // The state at the beginning of a stream or a list: that of an empty payload.
+    // The state at the beginning of a stream or a list: the shaper and the shape of refused calls, and the text state of an empty payload.
     pub(crate) fn new() -> State {
-        let mut empty = Payload::new(b"");
         State {
-            shaper: empty.shaper(),
-            shape: empty.shape(),
-            text: empty.text_state(),
+            shaper: Shaper::refused(),
+            shape: no_shape(),
+            text: Payload::new(b"").text_state(),
         }
     }
 }
 
-impl Machine {
+impl<'a> Machine<'a> {
     // The machine at the beginning of a stream.
-    pub(crate) fn new(alloc: Global) -> Result<Machine, AllocError> {
-        let page = vec![in alloc; 0u8; page::ROOM]?;
+    pub(crate) fn new(page: &'a mut [u8]) -> Machine<'a> {
         let state = State::new();
-        Ok(Machine { state, page })
+        Machine { state, page }
     }
 
     // `L`: number.
@@ -70,34 +82,28 @@ impl Machine {
         Answer::List(payload.u32())
     }
 
-    // `N`: options. A refused call gives the shaper of an empty payload.
+    // `N`: options. The shaper that a refused call gives takes the place of the old one, too.
     fn new_shaper(&mut self, mut payload: Payload<'_>) -> Answer {
         let given = Shaper::with_options(payload.options());
-        self.state.shaper = given.unwrap_or_else(|_| Payload::new(b"").shaper());
+        self.state.shaper = given.unwrap_or_else(|_| Shaper::refused());
         Answer::New(given.map(|_| ()))
     }
 
     // `R`: id.
     fn reserve(&mut self, mut payload: Payload<'_>) -> Answer {
-        let given = lent::reserve_on(self.state.shaper, payload.u32());
-        if let Ok(shaper) = given {
-            self.state.shaper = shaper;
-        }
-        Answer::Reserve(given.map(|_| ()))
+        let reserved = lent::reserve_on(self.state.shaper, payload.u32());
+        self.state.shaper = reserved.shaper;
+        Answer::Reserve(reserved.given)
     }
 
-    // `W`: node, entries. A refused row has the shape of an empty payload.
+    // `W`: node, entries. The shape that a refused call gives takes the place of the old one, too.
     fn row(&mut self, mut payload: Payload<'_>) -> Answer {
         let node = payload.u32();
         let list = payload.entries();
-        let given = lent::row_on(self.state.shaper, node, list.entries, list.count);
-        if let Ok(row) = given {
-            self.state.shaper = row.shaper;
-            self.state.shape = row.shape;
-        } else {
-            self.state.shape = Payload::new(b"").shape();
-        }
-        Answer::Row(given.map(|_| ()))
+        let made = lent::row_on(self.state.shaper, node, list.entries, list.count);
+        self.state.shaper = made.shaper;
+        self.state.shape = made.given.unwrap_or_else(|_| no_shape());
+        Answer::Row(made.given.map(|_| ()))
     }
 
     // `B`: node, entries.
@@ -124,41 +130,59 @@ impl Machine {
         let renderer = payload.renderer();
         let mark = payload.u8();
         let length = payload.u32() as usize;
-        let output = page::fresh(&mut self.page, length);
+        let output = page::fresh(self.page, length);
         let given = prefix_lines::next_prefix_lines(self.state.shape, renderer, mark, output);
         Answer::Renderer(given, length)
     }
 
+    // `T`, its message taken out.
+    fn write_text(&mut self, call: TextCall, message: &[u8]) -> Answer {
+        let output = page::fresh(self.page, call.length);
+        let made = lent::text_on(
+            self.state.shaper,
+            self.state.text,
+            call.renderer,
+            call.node,
+            call.list.entries,
+            call.list.count,
+            call.mark,
+            message,
+            output,
+        );
+        self.state.shaper = made.shaper;
+        self.state.text = made.state;
+        Answer::Text(made.given, call.length)
+    }
+
+    // `T`, where the payload ends within a message of so many bytes: those past the end are 0. Apart, since a call pays for the room of its arrays.
+    fn write_cut_text(&mut self, call: TextCall, given: &[u8], count: u16) -> Answer {
+        let mut message = [0u8; MESSAGE];
+        for (byte, given) in message.iter_mut().zip(given) {
+            *byte = *given;
+        }
+        self.write_text(call, &message[..usize::from(count)])
+    }
+
     // `T`: renderer, mark, output length, node, entries, message length, message.
-    fn text(&mut self, mut payload: Payload<'_>) -> Result<Answer, AllocError> {
+    fn text(&mut self, mut payload: Payload<'_>) -> Answer {
         let renderer = payload.renderer();
         let mark = payload.u8();
         let length = payload.u32() as usize;
         let node = payload.u32();
         let list = payload.entries();
-        let count = usize::from(payload.u16());
-        let message = payload.bytes(*self.page.allocator(), count)?;
-        let output = page::fresh(&mut self.page, length);
-        let given = lent::text_on(
-            self.state.shaper,
-            self.state.text,
+        let call = TextCall {
             renderer,
-            node,
-            list.entries,
-            list.count,
             mark,
-            &message,
-            output,
-        );
-        if let Ok(next) = given {
-            self.state.shaper = next.shaper;
-            self.state.text = next.state;
+            length,
+            node,
+            list,
+        };
+        let count = payload.u16();
+        let message = payload.take(usize::from(count));
+        if message.len() < usize::from(count) {
+            return self.write_cut_text(call, message, count);
         }
-        let answer = given.map(|next| TextLength {
-            length: next.length,
-            measure: next.measure,
-        });
-        Ok(Answer::Text(answer, length))
+        self.write_text(call, message)
     }
 
     // `S`: shaper.
@@ -180,9 +204,9 @@ impl Machine {
     }
 
     // Runs one command that is no repeat, by its letter (docs/REPLAY.md). Any other letter changes nothing.
-    fn call(&mut self, command: Command<'_>) -> Result<Answer, AllocError> {
+    fn call(&mut self, command: Command<'_>) -> Answer {
         let Command { letter, payload } = command;
-        Ok(match letter {
+        match letter {
             b'L' => self.list(payload),
             b'N' => self.new_shaper(payload),
             b'R' => self.reserve(payload),
@@ -191,29 +215,29 @@ impl Machine {
             b'V' => self.width(payload),
             b'O' => self.origin(payload),
             b'P' => self.render(payload),
-            b'T' => self.text(payload)?,
+            b'T' => self.text(payload),
             b'D' => Answer::Record(lineage::next_record(payload.rest())),
             b'S' => self.set_shaper(payload),
             b'Q' => self.set_text_state(payload),
             b'H' => self.set_shape(payload),
             _ => Answer::NotBuilt,
-        })
+        }
     }
 
     // `X`: times, commands. They are run quietly, and a repeat among them is skipped.
-    fn repeat(&mut self, mut payload: Payload<'_>) -> Result<Answer, AllocError> {
+    fn repeat(&mut self, mut payload: Payload<'_>) -> Answer {
         let times = payload.u32();
         let commands = payload.rest();
         for _ in 0..times {
             for command in Commands(commands) {
-                self.call(command)?;
+                self.call(command);
             }
         }
-        Ok(Answer::Repeated(times))
+        Answer::Repeated(times)
     }
 
     // Runs one command.
-    pub(crate) fn run(&mut self, command: Command<'_>) -> Result<Answer, AllocError> {
+    pub(crate) fn run(&mut self, command: Command<'_>) -> Answer {
         match command.letter {
             b'X' => self.repeat(command.payload),
             _ => self.call(command),

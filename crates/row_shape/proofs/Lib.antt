@@ -1,2 +1,3 @@
 pub mod RowCall
 pub mod RowFits
+pub mod RowLaws

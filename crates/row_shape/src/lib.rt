@@ -1,15 +1,17 @@
 // The row call by value, after graph_to_row_shape.rs.
 #![tactic(auto)]
 
-ghost use Rattle.std.specs.Prelude.{◌≡◌, ◌≤◌, length};
-ghost use Rattle.column.specs.Columns.{live, trim};
+ghost use Rattle.std.specs.Prelude.{◌≡◌, ◌<◌, ◌≤◌, length};
+ghost use Rattle.std.specs.List.{swap};
+ghost use Rattle.column.specs.Columns.{column_limit, live, trim};
+ghost use Rattle.row_shape.specs.Row.{no_shape};
 ghost use Rattle.row_shape.specs.Inner.{separator_with};
 ghost use Rattle.row_shape.specs.Promises.{row_answer_from, Rows};
 
 use cells::{cell, plain_cell, shown};
 use column::{COLUMN_LIMIT, Column, Slot};
 use links::{AncestorColumnBounds, Drawn, Swap};
-use render::{Cell, Entries, Options, Refusal, RowShape};
+use render::{Cell, DashStyle, Entries, LinkLinePlacement, Options, Refusal, RowShape, Style};
 use shaper::{Shaper, find_column};
 use std::mem;
 
@@ -18,6 +20,30 @@ use std::mem;
 pub struct NextRow {
     pub shape: RowShape,
     pub shaper: Shaper,
+}
+
+// What a refused row call gives in the place of a shape: a shape without cells, its numbers 0, its flags no, its optional lines absent, Persistent and Top.
+pub fn no_shape() -> RowShape
+    ensures { result ≡ no_shape }
+{
+    let blank = Cell::blank();
+    let cells = [blank; COLUMN_LIMIT];
+    RowShape {
+        node: 0,
+        merge: false,
+        separator_line: false,
+        style: Style {
+            dash_style: DashStyle::Persistent,
+            link_line_placement: LinkLinePlacement::Top,
+        },
+        is_head: false,
+        is_root: false,
+        node_column: 0,
+        width: 0,
+        link_line: false,
+        term_line: false,
+        cells,
+    }
 }
 
 // Whether the row needs a separator from the row before.
@@ -48,6 +74,14 @@ fn trimmed(slots: &[Slot]) -> usize
         count -= 1;
     }
     count
+}
+
+// Two columns change places, each slot as a whole: kind, id and origin.
+fn exchange(slots: &mut [Slot; COLUMN_LIMIT], column: usize, other: usize)
+    requires { (column < column_limit) × (other < column_limit) }
+    ensures after { slots.new ≡ swap slots.old column other }
+{
+    slots.swap(column, other);
 }
 
 // The row call: the next node as a row shape. One function owns the slots and who draws in them, and walks the entries and the cells: a
@@ -97,7 +131,7 @@ pub fn next_row_shape(shaper: Shaper, node: u32, entries: Entries) -> Result<Nex
         given_up,
         was_direct: old.is_parent(),
     };
-    slots.swap(column, other);
+    exchange(&mut slots, column, other);
     parents[column] = mem::replace(&mut parents[other], Drawn::Nobody);
     let bounds = AncestorColumnBounds::new(parents, count, column);
     let need_link_line = bounds.need_link_line(swap);

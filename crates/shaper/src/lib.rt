@@ -7,7 +7,7 @@ ghost use Rattle.shaper.specs.Shaper.{view_of, view_with, fresh, refused_options
 ghost use Rattle.shaper.specs.NodeColumn.{head_at, unallocated, fitting, Finds};
 
 use column::{COLUMN_LIMIT, Column, Slot, Started};
-use render::{Options, Refusal};
+use render::{DashStyle, LinkLinePlacement, Options, Refusal, Style};
 
 // The greatest minimum row height that a new shaper takes.
 pub const HEIGHT_LIMIT: usize = 16;
@@ -103,6 +103,20 @@ impl Shaper {
             return Err(Refusal::HeightAboveLimit);
         }
         Ok(without_columns(options))
+    }
+
+    // What a refused new shaper comes back as: height 0, no staggering, Persistent, Top and no columns.
+    pub fn refused() -> Shaper
+        ensures { result ≡ fresh refused_options }
+    {
+        without_columns(Options {
+            min_row_height: 0,
+            stagger_consecutive_disconnected_nodes: false,
+            graph_row_shape_style: Style {
+                dash_style: DashStyle::Persistent,
+                link_line_placement: LinkLinePlacement::Top,
+            },
+        })
     }
 
     // The reserving call: an id already held changes nothing, else it becomes Reserved in the first Empty column or a new last one.

@@ -82,7 +82,7 @@ returns c =
     let b = v.invariant.0 in
     let g = row_walked a.shaper a.node a.entries _ _ _ b _ _ _ _ _ _ v.invariant.1 c.loop-entry-test.false in
     let w = left-of v.count c.loop-at.at _ c.loop-at.next.slots (omega (arith, c.loop-at.invariant.0.upto, c.loop-at-test.false)) (omega (arith, c.loop-at.invariant.0.fits, c.loop-at.invariant.0.filled.long)) c.trimmed.ensures.within c.trimmed.ensures.left in
-    row_done a.shaper a.node a.entries _ _ _ b _ _ _ _ _ g _ c.given_up-given_up.ensures _ c.unwrap_or-other.ensures _ c.swap.ensures.after _ (rw (c.replace.ensures.after, c.replace.ensures.value) refl) _
+    row_done a.shaper a.node a.entries _ _ _ b _ _ _ _ _ g _ c.given_up-given_up.ensures _ c.unwrap_or-other.ensures _ c.exchange.ensures.after _ (rw (c.replace.ensures.after, c.replace.ensures.value) refl) _
     (c.is_parent.ensures ∙ ap is_parent c.column_before-old.ensures) _ c.new-bounds.ensures _ c.need_link_line-need_link_line.ensures _ c.loop-k.k
     (omega (arith, c.loop-k-test.false, c.reach_end-end.ensures)) c.loop-k.invariant _ _ c.is_head-is_head.ensures c.separator_line-separator_line.ensures _
     (filling-done _ _ _ c.loop-at.at c.loop-at.next.slots _ _ _ _ c.loop-at.invariant.0 c.loop-at-test.false refl refl c.loop-at.invariant.1 c.loop-at.invariant.2 refl w.0 w.1)
