@@ -30,7 +30,8 @@ impl<O: Write> Write for Buffered<'_, O> {
             self.flush()?;
         }
         if self.buffer.len() - self.waiting < bytes.len() {
-            return self.to.write(bytes);
+            self.to.write_all(bytes)?;
+            return Ok(bytes.len());
         }
         let end = self.waiting + bytes.len();
         self.buffer[self.waiting..end].copy_from_slice(bytes);

@@ -33,7 +33,9 @@ fn unallocated_parents(slots: [Slot; COLUMN_LIMIT], count: usize, entries: &[Ent
 {
     entries
         .iter()
-        .filter(|entry| held_by(slots, count, entry.ancestor).is_none())
+        .filter(|entry| {
+            entry.ancestor.is_anonymous() || held_by(slots, count, entry.ancestor).is_none()
+        })
         .count()
 }
 
