@@ -39,14 +39,10 @@ fn first_holding(live: &[Slot], ancestor: Ancestor) -> Option<usize>
         .position(|slot| holds_entry(slot.column, ancestor))
 }
 
-// The column that holds an entry's id; where it has none, the slots are not looked at. Slots and count stay apart: the promise is of any count, and
-// one above the limit is read as the limit.
+// The column that holds an entry's id. Slots and count stay apart: the promise is of any count, and one above the limit is read as the limit.
 pub fn held_by(slots: [Slot; COLUMN_LIMIT], count: usize, ancestor: Ancestor) -> Option<usize>
     ensures { result ≡ held_by ancestor (live count slots) }
 {
-    if ancestor.is_anonymous() {
-        return None;
-    }
     first_holding(&slots[..column::live_count(count)], ancestor)
 }
 
