@@ -180,24 +180,21 @@ impl Payload<'_> {
         Entry { ancestor }
     }
 
-    // How many entries are given, then those. Those past the list's end are passed over.
-    pub(crate) fn entries(&mut self) -> EntryList {
+    // How many entries are given, then those, into a list that is lent: the room of one given back would be cleared once more. Those past the
+    // list's end are passed over.
+    pub(crate) fn read_entries(&mut self, list: &mut EntryList) {
         let count = usize::from(self.u16());
         let mut given = self.part(ENTRY * count);
-        let mut list = EntryList::none();
         list.count = count;
         for entry in list.entries.iter_mut().take(count) {
             *entry = given.entry();
         }
-        list
     }
 
-    // Entries, if there are any: flag, entries.
-    pub(crate) fn optional_entries(&mut self) -> EntryList {
+    // Entries, if there are any: flag, entries. Where there are none, the list stays as it is.
+    pub(crate) fn read_optional_entries(&mut self, list: &mut EntryList) {
         if self.flag() {
-            self.entries()
-        } else {
-            EntryList::none()
+            self.read_entries(list);
         }
     }
 

@@ -99,7 +99,8 @@ impl<'a> Machine<'a> {
     // `W`: node, entries. The shape that a refused call gives takes the place of the old one, too.
     fn row(&mut self, mut payload: Payload<'_>) -> Answer {
         let node = payload.u32();
-        let list = payload.entries();
+        let mut list = EntryList::none();
+        payload.read_entries(&mut list);
         let made = lent::row_on(self.state.shaper, node, list.entries, list.count);
         self.state.shaper = made.shaper;
         self.state.shape = made.given.unwrap_or_else(|_| no_shape());
@@ -109,14 +110,16 @@ impl<'a> Machine<'a> {
     // `B`: node, entries.
     fn preview(&self, mut payload: Payload<'_>) -> Answer {
         let node = payload.u32();
-        let list = payload.entries();
+        let mut list = EntryList::none();
+        payload.read_entries(&mut list);
         Answer::Preview(lent::preview_on(self.state.shaper, node, list.entries, list.count))
     }
 
     // `V`: node, if there is one, and entries, if there are any.
     fn width(&self, mut payload: Payload<'_>) -> Answer {
         let node = payload.node();
-        let list = payload.optional_entries();
+        let mut list = EntryList::none();
+        payload.read_optional_entries(&mut list);
         Answer::Width(lent::width_on(self.state.shaper, node, list.entries, list.count))
     }
 
@@ -169,7 +172,8 @@ impl<'a> Machine<'a> {
         let mark = payload.u8();
         let length = payload.u32() as usize;
         let node = payload.u32();
-        let list = payload.entries();
+        let mut list = EntryList::none();
+        payload.read_entries(&mut list);
         let call = TextCall {
             renderer,
             mark,
