@@ -103,8 +103,16 @@ impl<'a> Machine<'a> {
         payload.read_entries(&mut list);
         let made = lent::row_on(self.state.shaper, node, list.entries, list.count);
         self.state.shaper = made.shaper;
-        self.state.shape = made.given.unwrap_or_else(|_| no_shape());
-        Answer::Row(made.given.map(|_| ()))
+        match made.given {
+            Ok(shape) => {
+                self.state.shape = shape;
+                Answer::Row(Ok(()))
+            }
+            Err(refusal) => {
+                self.state.shape = no_shape();
+                Answer::Row(Err(refusal))
+            }
+        }
     }
 
     // `B`: node, entries.
