@@ -180,8 +180,8 @@ impl Payload<'_> {
         Entry { ancestor }
     }
 
-    // How many entries are given, then those, into a list that is lent: the room of one given back would be cleared once more. Those past the
-    // list's end are passed over; what the list has behind the given ones stays.
+    // How many entries are given, then those, into a list that is lent: one that is given back would have its room cleared a second time.
+    // Those past the list's end are passed over; what the list has behind the given ones stays.
     pub(crate) fn read_entries(&mut self, list: &mut EntryList) {
         let count = usize::from(self.u16());
         let mut given = self.part(ENTRY * count);
